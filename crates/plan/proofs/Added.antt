@@ -1,0 +1,44 @@
+-- A task more in the rows of a plan is a task more at the end of its task set. Assumes nothing.
+use mathlib.Core.Bool.{true, false, cond}
+use mathlib.Core.List.{List, [], _∷_, _++_, map}
+use mathlib.Core.Path.{_≡_, _∙_, sym, ap}
+use Prim.Native.Nat.{ℕ, _+_, _<_, _≤_}
+use native.Mathlib.Omega.{arith}
+use lib.Dec.{leb}
+use lib.ListN.{length, take, set}
+use Rattle.std.proofs.shelf.Lists.{take-more-set, map-push}
+use Rattle.std.proofs.shelf.Tests.{le-leb, lt-leb}
+use Rattle.std.specs.Options.{mapped}
+use Rattle.std.specs.declared.option.Option.{Option}
+use Rattle.std.specs.declared.option.Option.the-variants.{Some, None}
+use Rattle.plan.proofs.Listed.{tasks-are-count}
+use Rattle.plan.specs.Checks.{addFault, recordFault, unless}
+use Rattle.plan.specs.Refusals.{inPlan}
+use Rattle.plan.specs.TaskSet.{Parameters, taskSet, parameters}
+use Rattle.plan.specs.declared.draft.Draft.{Draft}
+use Rattle.plan.specs.declared.fault.Place.the-variants as place
+use Rattle.plan.specs.declared.fault.PlanFault.{PlanFault}
+use Rattle.plan.specs.declared.fault.PlanFault.the-variants as plan
+use Rattle.plan.specs.declared.plan.Plan.{Plan}
+use Rattle.plan.specs.declared.task.Task.{Task}
+
+pub full-test : (p : Plan) → 30 ≤ p .count → leb 30 (length (taskSet p .tasks)) ≡ true
+full-test p full = le-leb 30 _ (omega (arith, tasks-are-count p))
+
+pub room-test : (p : Plan) → p .count < 30 → leb 30 (length (taskSet p .tasks)) ≡ false
+room-test p room = lt-leb 30 _ (omega (arith, tasks-are-count p))
+
+pub full-is-refused : (p : Plan) (d : Draft) → 30 ≤ p .count → addFault (taskSet p) d ≡ Some plan.Full
+full-is-refused p d full =
+    ap (λ b. unless b plan.Full (mapped inPlan (recordFault d (place.Task (length (taskSet p .tasks)))))) (full-test p full)
+
+pub room-leaves-the-record : (p : Plan) (d : Draft) → p .count < 30 → addFault (taskSet p) d ≡ mapped inPlan (recordFault d (place.Task (p .count)))
+room-leaves-the-record p d room =
+    ap (λ b. unless b plan.Full (mapped inPlan (recordFault d (place.Task (length (taskSet p .tasks)))))) (room-test p room) ∙
+    ap (λ n. mapped inPlan (recordFault d (place.Task n))) (tasks-are-count p)
+
+pub row-added : (p : Plan) (t : Task) (q : Parameters) → p .count < 30 → parameters t ≡ q → map parameters (take (p .count + 1) (set (p .rows) (p .count) t)) ≡ taskSet p .tasks ++ (q ∷ [])
+row-added p t q room same =
+    ap (map parameters) (take-more-set (p .rows) (p .count) t (omega (arith, p .wide))) ∙
+    map-push parameters (take (p .count) (p .rows)) t ∙
+    ap (λ x. taskSet p .tasks ++ (x ∷ [])) same

@@ -1,0 +1,4 @@
+pub mod Added
+pub mod Answered
+pub mod Compared
+pub mod Listed

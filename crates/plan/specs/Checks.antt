@@ -1,0 +1,89 @@
+-- The checks of a task's numbers and of a ratio, and what adding a task and setting a ratio come to.
+-- Assumes nothing.
+use mathlib.Core.Bool.{Bool, true, false, cond, _||_}
+use mathlib.Core.List.{List, [], _∷_, _++_}
+use Prim.Native.Nat.{ℕ}
+use lib.Dec.{eqb, ltb, leb}
+use lib.ListN.{length}
+use Rattle.std.specs.Options.{mapped}
+use Rattle.std.specs.declared.option.Option.{Option}
+use Rattle.std.specs.declared.option.Option.the-variants.{Some, None}
+use Rattle.std.specs.declared.result.Result.{Result}
+use Rattle.std.specs.declared.result.Result.the-variants.{Ok, Err}
+use Rattle.plan.specs.Refusals.{answer, inPlan}
+use Rattle.plan.specs.TaskSet.{Parameters, TaskSet}
+use Rattle.plan.specs.declared.draft.Draft.{Draft}
+use Rattle.plan.specs.declared.fault.Place.{Place}
+use Rattle.plan.specs.declared.fault.Place.the-variants as place
+use Rattle.plan.specs.declared.fault.PlanFault.{PlanFault}
+use Rattle.plan.specs.declared.fault.PlanFault.the-variants as plan
+use Rattle.plan.specs.declared.fault.RecordError.{RecordError}
+use Rattle.plan.specs.declared.fault.RecordError.the-variants.{Period, Deadline, Work, Constraint, SpeedOrRest}
+use Rattle.plan.specs.declared.fault.RecordFault.{RecordFault}
+use Rattle.plan.specs.declared.task.Speed.{Speed}
+use Rattle.plan.specs.declared.task.Speed.the-variants.{High, Low}
+
+-- 0 is high, 1 is low
+abbrev pub speedOf : ℕ → Speed
+speedOf n = cond (eqb n 0) High Low
+
+abbrev pub parametersOf : Draft → Parameters
+parametersOf d = record {
+  period = d .period;
+  deadline = d .deadline;
+  work = d .work;
+  m = d .m;
+  k = d .k;
+  speed = speedOf (d .speed);
+}
+
+-- refuses with e where the test fails, and else goes on
+abbrev pub unless : {E : Type 0} → Bool → E → Option E → Option E
+unless bad e rest = cond bad (Some e) rest
+
+-- the first check that the numbers of a task fail
+abbrev pub firstError : Draft → Option RecordError
+firstError d =
+    unless (eqb (d .period) 0) Period
+    (unless (eqb (d .deadline) 0 || ltb (d .period) (d .deadline)) Deadline
+    (unless (eqb (d .work) 0 || ltb (d .deadline) (d .work)) Work
+    (unless (eqb (d .m) 0 || (ltb (d .k) (d .m) || ltb 32 (d .k))) Constraint
+    (unless (ltb 1 (d .speed)) SpeedOrRest
+    None))))
+
+-- a fault at that place
+abbrev pub faultAt : Place → RecordError → RecordFault
+faultAt at e = record { error = e; place = at }
+
+abbrev pub recordFault : Draft → Place → Option RecordFault
+recordFault d at = mapped (faultAt at) (firstError d)
+
+-- the task that the numbers give, or the first fault, at the place that its reader gives
+abbrev pub checked : Draft → Place → Result Parameters RecordFault
+checked d at = answer (recordFault d at) (parametersOf d)
+
+-- why a task cannot be added: 30 tasks first, then its numbers, at the number that it would have had
+abbrev pub addFault : TaskSet → Draft → Option PlanFault
+addFault set d =
+    unless (leb 30 (length (set .tasks))) plan.Full
+    (mapped inPlan (recordFault d (place.Task (length (set .tasks)))))
+
+abbrev pub withTask : TaskSet → Parameters → TaskSet
+withTask set t = record { tasks = set .tasks ++ (t ∷ []); p = set .p; q = set .q }
+
+-- the number that the next task gets, or none where there are 30 already
+abbrev pub nextNumber : TaskSet → Option ℕ
+nextNumber set = cond (leb 30 (length (set .tasks))) None (Some (length (set .tasks)))
+
+abbrev pub appended : TaskSet → Parameters → TaskSet
+appended set t = cond (leb 30 (length (set .tasks))) set (withTask set t)
+
+-- outside 1 ≤ q ≤ p ≤ 16
+abbrev pub outOfGear : ℕ → ℕ → Bool
+outOfGear p q = eqb q 0 || (ltb p q || ltb 16 p)
+
+abbrev pub ratioFault : ℕ → ℕ → Option PlanFault
+ratioFault p q = unless (outOfGear p q) plan.Ratio None
+
+abbrev pub withRatio : TaskSet → ℕ → ℕ → TaskSet
+withRatio set p q = record { tasks = set .tasks; p = p; q = q }

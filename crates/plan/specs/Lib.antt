@@ -1,0 +1,5 @@
+pub mod Bounds
+pub mod Checks
+pub mod Laws
+pub mod Refusals
+pub mod TaskSet

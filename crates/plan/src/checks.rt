@@ -1,0 +1,111 @@
+// The checks that make a task of a draft, and the changes of a plan: a task more, another ratio.
+ghost use mathlib.Core.Bool.{Bool, false};
+ghost use mathlib.Core.Path.{_≡_};
+ghost use Prim.Native.Nat.{_<_};
+ghost use lib.ListN.{length};
+ghost use Rattle.std.specs.Options.{isSome};
+ghost use Rattle.std.specs.Results.{isOk, mapped};
+ghost use Rattle.plan.specs.Checks.{checked, addFault, nextNumber, appended, withTask, parametersOf, ratioFault, withRatio};
+ghost use Rattle.plan.specs.Refusals.{answer, left};
+ghost use Rattle.plan.specs.TaskSet.{taskSet, parameters};
+use super::draft::Draft;
+use super::fault::Place;
+use super::fault::PlanFault;
+use super::fault::PlanFaultFromRecord;
+use super::fault::RecordError;
+use super::fault::RecordFault;
+use super::plan::Plan;
+use super::plan::ROWS;
+use super::task::Ratio;
+use super::task::Speed;
+use super::task::Task;
+
+impl Draft {
+    // The task that these numbers give, or the first fault, at the place that the caller gives.
+    pub fn check(&self, place: Place) -> Result<Task, RecordFault>
+        ensures { λ r. ⌜ mapped parameters (λ e. e) r ≡ checked (now (self .entry)) place ⌝ }
+    {
+        let Draft {
+            period,
+            deadline,
+            work,
+            m,
+            k,
+            speed,
+        } = *self;
+        let error = if period == 0 {
+            RecordError::Period
+        } else if deadline == 0 || deadline > period {
+            RecordError::Deadline
+        } else if work == 0 || work > deadline {
+            RecordError::Work
+        } else if m == 0 || m > k || k > 32 {
+            RecordError::Constraint
+        } else if speed > 1 {
+            RecordError::SpeedOrRest
+        } else {
+            let speed = if speed == 0 { Speed::High } else { Speed::Low };
+            return Ok(Task {
+                period,
+                deadline,
+                work,
+                m,
+                k,
+                speed,
+            });
+        };
+        Err(RecordFault { error, place })
+    }
+}
+
+impl Plan {
+    // Adds a task at the end and answers its number.
+    pub fn add(&mut self, draft: Draft) -> Result<usize, PlanFault>
+        ensures answer { λ r. ⌜ r ≡ answer (addFault (taskSet (now (self .entry))) draft) (length (taskSet (now (self .entry)) .tasks)) ⌝ }
+        ensures after { λ _. ⌜ taskSet (now (self .exit)) ≡ left (addFault (taskSet (now (self .entry))) draft) (withTask (taskSet (now (self .entry))) (parametersOf draft)) (taskSet (now (self .entry))) ⌝ }
+        ensures kept { λ r. ⌜ (isOk r ≡ false → now (self .exit) ≡ now (self .entry)) ⌝ }
+    {
+        let number = self.count;
+        if number >= ROWS {
+            return Err(PlanFault::Full);
+        }
+        let task = draft.check(Place::Task(number))?;
+        self.push(task);
+        Ok(number)
+    }
+
+    // Adds a task that is checked already, and answers its number, or nothing where there are 30.
+    pub fn append(&mut self, task: Task) -> Option<usize>
+        ensures answer { λ r. ⌜ r ≡ nextNumber (taskSet (now (self .entry))) ⌝ }
+        ensures after { λ _. ⌜ taskSet (now (self .exit)) ≡ appended (taskSet (now (self .entry))) (parameters task) ⌝ }
+        ensures kept { λ r. ⌜ (isSome r ≡ false → now (self .exit) ≡ now (self .entry)) ⌝ }
+    {
+        let number = self.count;
+        if number >= ROWS {
+            return None;
+        }
+        self.push(task);
+        Some(number)
+    }
+
+    fn push(&mut self, task: Task)
+        requires { ⌜ now self .count < 30 ⌝ }
+        ensures { λ _. ⌜ taskSet (now (self .exit)) ≡ withTask (taskSet (now (self .entry))) (parameters task) ⌝ }
+    {
+        self.rows[self.count] = task;
+        self.count += 1;
+    }
+
+    // Sets the ratio p/q of the high speed to the low one.
+    pub fn set_ratio(&mut self, p: u8, q: u8) -> Result<(), PlanFault>
+        ensures answer { λ r. ⌜ r ≡ answer (ratioFault p q) tt ⌝ }
+        ensures after { λ _. ⌜ taskSet (now (self .exit)) ≡ left (ratioFault p q) (withRatio (taskSet (now (self .entry))) p q) (taskSet (now (self .entry))) ⌝ }
+        ensures kept { λ r. ⌜ (isOk r ≡ false → now (self .exit) ≡ now (self .entry)) ⌝ }
+    {
+        if q == 0 || p < q || p > 16 {
+            return Err(PlanFault::Ratio);
+        }
+        self.ratio = Ratio { p, q };
+        Ok(())
+    }
+}
