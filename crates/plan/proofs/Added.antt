@@ -12,7 +12,7 @@ use Rattle.std.specs.Options.{mapped}
 use Rattle.std.specs.declared.option.Option.{Option}
 use Rattle.std.specs.declared.option.Option.the-variants.{Some, None}
 use Rattle.plan.proofs.Listed.{tasks-are-count}
-use Rattle.plan.specs.Checks.{addFault, recordFault, unless}
+use Rattle.plan.specs.Checks.{addFault, recordFault, refuseIf}
 use Rattle.plan.specs.Refusals.{inPlan}
 use Rattle.plan.specs.TaskSet.{Parameters, taskSet, parameters}
 use Rattle.plan.specs.declared.draft.Draft.{Draft}
@@ -30,11 +30,11 @@ room-test p room = lt-leb 30 _ (omega (arith, tasks-are-count p))
 
 pub full-is-refused : (p : Plan) (d : Draft) → 30 ≤ p .count → addFault (taskSet p) d ≡ Some plan.Full
 full-is-refused p d full =
-    ap (λ b. unless b plan.Full (mapped inPlan (recordFault d (place.Task (length (taskSet p .tasks)))))) (full-test p full)
+    ap (λ b. refuseIf b plan.Full (mapped inPlan (recordFault d (place.Task (length (taskSet p .tasks)))))) (full-test p full)
 
 pub room-leaves-the-record : (p : Plan) (d : Draft) → p .count < 30 → addFault (taskSet p) d ≡ mapped inPlan (recordFault d (place.Task (p .count)))
 room-leaves-the-record p d room =
-    ap (λ b. unless b plan.Full (mapped inPlan (recordFault d (place.Task (length (taskSet p .tasks)))))) (room-test p room) ∙
+    ap (λ b. refuseIf b plan.Full (mapped inPlan (recordFault d (place.Task (length (taskSet p .tasks)))))) (room-test p room) ∙
     ap (λ n. mapped inPlan (recordFault d (place.Task n))) (tasks-are-count p)
 
 pub row-added : (p : Plan) (t : Task) (q : Parameters) → p .count < 30 → parameters t ≡ q → map parameters (take (p .count + 1) (set (p .rows) (p .count) t)) ≡ taskSet p .tasks ++ (q ∷ [])

@@ -20,6 +20,7 @@ use Rattle.plan.specs.declared.fault.PlanFault.the-variants as plan
 use Rattle.plan.specs.declared.fault.RecordError.{RecordError}
 use Rattle.plan.specs.declared.fault.RecordError.the-variants.{Period, Deadline, Work, Constraint, SpeedOrRest}
 use Rattle.plan.specs.declared.fault.RecordFault.{RecordFault}
+use Rattle.plan.specs.declared.task.Ratio.{Ratio}
 use Rattle.plan.specs.declared.task.Speed.{Speed}
 use Rattle.plan.specs.declared.task.Speed.the-variants.{High, Low}
 
@@ -37,18 +38,18 @@ parametersOf d = record {
   speed = speedOf (d .speed);
 }
 
--- refuses with e where the test fails, and else goes on
-abbrev pub unless : {E : Type 0} → Bool → E → Option E → Option E
-unless bad e rest = cond bad (Some e) rest
+-- refuses with e if something is bad, and else goes on to the rest of the checks
+abbrev pub refuseIf : {E : Type 0} → Bool → E → Option E → Option E
+refuseIf bad e rest = cond bad (Some e) rest
 
 -- the first check that the numbers of a task fail
 abbrev pub firstError : Draft → Option RecordError
 firstError d =
-    unless (eqb (d .period) 0) Period
-    (unless (eqb (d .deadline) 0 || ltb (d .period) (d .deadline)) Deadline
-    (unless (eqb (d .work) 0 || ltb (d .deadline) (d .work)) Work
-    (unless (eqb (d .m) 0 || (ltb (d .k) (d .m) || ltb 32 (d .k))) Constraint
-    (unless (ltb 1 (d .speed)) SpeedOrRest
+    refuseIf (eqb (d .period) 0) Period
+    (refuseIf (eqb (d .deadline) 0 || ltb (d .period) (d .deadline)) Deadline
+    (refuseIf (eqb (d .work) 0 || ltb (d .deadline) (d .work)) Work
+    (refuseIf (eqb (d .m) 0 || (ltb (d .k) (d .m) || ltb 32 (d .k))) Constraint
+    (refuseIf (ltb 1 (d .speed)) SpeedOrRest
     None))))
 
 -- a fault at that place
@@ -65,7 +66,7 @@ checked d at = answer (recordFault d at) (parametersOf d)
 -- why a task cannot be added: 30 tasks first, then its numbers, at the number that it would have had
 abbrev pub addFault : TaskSet → Draft → Option PlanFault
 addFault set d =
-    unless (leb 30 (length (set .tasks))) plan.Full
+    refuseIf (leb 30 (length (set .tasks))) plan.Full
     (mapped inPlan (recordFault d (place.Task (length (set .tasks)))))
 
 abbrev pub withTask : TaskSet → Parameters → TaskSet
@@ -82,8 +83,14 @@ appended set t = cond (leb 30 (length (set .tasks))) set (withTask set t)
 abbrev pub outOfGear : ℕ → ℕ → Bool
 outOfGear p q = eqb q 0 || (ltb p q || ltb 16 p)
 
+abbrev pub gears : Ratio → ℕ × ℕ
+gears ratio = (ratio .p, ratio .q)
+
+abbrev pub geared : ℕ → ℕ → Option (ℕ × ℕ)
+geared p q = cond (outOfGear p q) None (Some (p, q))
+
 abbrev pub ratioFault : ℕ → ℕ → Option PlanFault
-ratioFault p q = unless (outOfGear p q) plan.Ratio None
+ratioFault p q = refuseIf (outOfGear p q) plan.Ratio None
 
 abbrev pub withRatio : TaskSet → ℕ → ℕ → TaskSet
 withRatio set p q = record { tasks = set .tasks; p = p; q = q }

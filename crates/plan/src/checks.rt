@@ -3,11 +3,12 @@ ghost use mathlib.Core.Bool.{Bool, false};
 ghost use mathlib.Core.Path.{_≡_};
 ghost use Prim.Native.Nat.{_<_};
 ghost use lib.ListN.{length};
+ghost use Rattle.std.specs.Options as options;
 ghost use Rattle.std.specs.Options.{isSome};
 ghost use Rattle.std.specs.Results.{isOk, mapped};
-ghost use Rattle.plan.specs.Checks.{checked, addFault, nextNumber, appended, withTask, parametersOf, ratioFault, withRatio};
+ghost use Rattle.plan.specs.Checks.{checked, addFault, nextNumber, appended, withTask, parametersOf, gears, geared, ratioFault, withRatio};
 ghost use Rattle.plan.specs.Refusals.{answer, left};
-ghost use Rattle.plan.specs.TaskSet.{taskSet, parameters};
+ghost use Rattle.plan.specs.TaskSet.{taskSet, parameters, empty};
 use super::draft::Draft;
 use super::fault::Place;
 use super::fault::PlanFault;
@@ -58,7 +59,28 @@ impl Draft {
     }
 }
 
+impl Ratio {
+    // The ratio p/q, if 1 ≤ q ≤ p ≤ 16.
+    pub fn new(p: u8, q: u8) -> Option<Ratio>
+        ensures { λ r. ⌜ options.mapped gears r ≡ geared p q ⌝ }
+    {
+        if q == 0 || p < q || p > 16 {
+            return None;
+        }
+        Some(Ratio { p, q })
+    }
+}
+
 impl Plan {
+    // An empty plan with that ratio.
+    pub fn with_ratio(ratio: Ratio) -> Plan
+        ensures { λ r. ⌜ taskSet r ≡ withRatio empty (ratio .p) (ratio .q) ⌝ }
+    {
+        let mut plan = Plan::new();
+        plan.ratio = ratio;
+        plan
+    }
+
     // Adds a task at the end and answers its number.
     pub fn add(&mut self, draft: Draft) -> Result<usize, PlanFault>
         ensures answer { λ r. ⌜ r ≡ answer (addFault (taskSet (now (self .entry))) draft) (length (taskSet (now (self .entry)) .tasks)) ⌝ }
@@ -102,10 +124,10 @@ impl Plan {
         ensures after { λ _. ⌜ taskSet (now (self .exit)) ≡ left (ratioFault p q) (withRatio (taskSet (now (self .entry))) p q) (taskSet (now (self .entry))) ⌝ }
         ensures kept { λ r. ⌜ (isOk r ≡ false → now (self .exit) ≡ now (self .entry)) ⌝ }
     {
-        if q == 0 || p < q || p > 16 {
+        let Some(ratio) = Ratio::new(p, q) else {
             return Err(PlanFault::Ratio);
-        }
-        self.ratio = Ratio { p, q };
+        };
+        self.ratio = ratio;
         Ok(())
     }
 }

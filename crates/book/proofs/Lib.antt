@@ -1,0 +1,9 @@
+pub mod Filled
+pub mod Opened
+pub mod Readings
+pub mod Recorded
+pub mod Sound
+pub mod Sums
+pub mod Walked
+pub mod Writings
+pub mod Zeros

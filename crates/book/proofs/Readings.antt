@@ -1,0 +1,89 @@
+-- What the checks of the blocks and of the records make of the whole book. Assumes nothing.
+use mathlib.Core.Bool.{Bool, true, false, cond, not}
+use mathlib.Core.List.{List}
+use mathlib.Core.Logic.{_⊎_, inl, inr}
+use mathlib.Core.Path.{_≡_, _∙_, refl, sym, ap}
+use Prim.Native.Nat.{ℕ}
+use native.Mathlib.Omega.{arith}
+use Rattle.std.proofs.shelf.Tests.{not-true}
+use Rattle.std.specs.Options.{mapped, orOther}
+use Rattle.std.specs.declared.option.Option.{Option}
+use Rattle.std.specs.declared.option.Option.the-variants.{Some, None}
+use Rattle.std.specs.declared.result.Result.{Result}
+use Rattle.std.specs.declared.result.Result.the-variants.{Ok, Err}
+use Rattle.plan.proofs.Answered.{fault-of-err, fault-of-ok, value-of-ok}
+use Rattle.plan.specs.Checks.{outOfGear, geared}
+use Rattle.plan.specs.Refusals.{answer}
+use Rattle.plan.specs.TaskSet.{TaskSet}
+use Rattle.plan.specs.declared.fault.RecordFault.{RecordFault}
+use Rattle.book.proofs.Sound.{Lone, Two, opened-is}
+use Rattle.book.proofs.Walked.{byte-of-block}
+use Rattle.book.specs.Bytes.{byte}
+use Rattle.book.specs.Cursors.{Walk, begun}
+use Rattle.book.specs.Reading.{blockOf, decoded, firstFault, holding, openFault, readFault, records}
+use Rattle.book.specs.Refusals.{inBook}
+use Rattle.book.specs.declared.fault.BookFault.{BookFault}
+
+module _ (book : List ℕ) where
+  pub refused-at-blocks : {f : BookFault} → openFault book ≡ Some f → readFault book ≡ Some f
+  refused-at-blocks e = ap (λ o. orOther o (mapped inBook (firstFault book (records book)))) e
+
+  pub then-records : openFault book ≡ None → readFault book ≡ mapped inBook (firstFault book (records book))
+  then-records e = ap (λ o. orOther o (mapped inBook (firstFault book (records book)))) e
+
+  pub refused-at-record : {f : RecordFault} → openFault book ≡ None → firstFault book (records book) ≡ Some f → readFault book ≡ Some (inBook f)
+  refused-at-record e f = then-records e ∙ ap (mapped inBook) f
+
+  pub accepted : openFault book ≡ None → firstFault book (records book) ≡ None → readFault book ≡ None
+  accepted e f = then-records e ∙ ap (mapped inBook) f
+
+  -- an opened book has a ratio
+  pub opened-in-gear : openFault book ≡ None → outOfGear (byte book 4) (byte book 5) ≡ false
+  opened-in-gear none =
+      elim (opened-is book none) [
+        | inl b ↦ not-true _ (b .sound .ratio)
+        | inr b ↦ sym (ap (λ p. outOfGear p (byte book 5)) (byte-of-block book 0 4 (omega arith))) ∙
+            sym (ap (λ q. outOfGear (byte (blockOf book 0) 4) q) (byte-of-block book 0 5 (omega arith))) ∙
+            not-true _ (b .first .ratio)
+      ]
+
+  pub opened-geared : openFault book ≡ None → geared (byte book 4) (byte book 5) ≡ Some (byte book 4, byte book 5)
+  opened-geared none = ap (λ b. cond b None (Some (byte book 4, byte book 5))) (opened-in-gear none)
+
+-- A cursor was opened over the book.
+module _ (book : List ℕ) (w : Walk) (opened : Ok w ≡ answer (openFault book) (begun book)) where
+  pub passed-blocks : openFault book ≡ None
+  passed-blocks = fault-of-ok (openFault book) (begun book) w opened
+
+  started : w ≡ begun book
+  started = value-of-ok (openFault book) (begun book) w opened
+
+  pub its-book-passed : openFault (w .book) ≡ None
+  its-book-passed = ap (λ x. openFault (x .book)) started ∙ passed-blocks
+
+  pub it-begins : w ≡ begun (w .book)
+  it-begins = started ∙ ap (λ x. begun (x .book)) (sym started)
+
+  pub has-a-ratio : None ≡ geared (byte book 4) (byte book 5) → ⊥
+  has-a-ratio e =
+      let g = opened-geared book passed-blocks in
+      let z : _≡_ {A = ℕ} 0 1 = cc in
+      omega arith
+
+  first-there : firstFault (w .book) (records (w .book)) ≡ firstFault book (records book)
+  first-there = ap (λ x. firstFault (x .book) (records (x .book))) started
+
+  pub refused-by-record : (set : TaskSet) (f : RecordFault) → Err f ≡ answer (firstFault (w .book) (records (w .book))) set → readFault book ≡ Some (inBook f)
+  refused-by-record set f e = refused-at-record book passed-blocks (sym first-there ∙ fault-of-err _ set f e)
+
+  module _ (ratio : ℕ × ℕ) (set : TaskSet) (geared-so : Some ratio ≡ geared (byte book 4) (byte book 5))
+      (all : Ok set ≡ answer (firstFault (w .book) (records (w .book))) (holding (w .book) (ratio .0) (ratio .1))) where
+    pub passed-all : readFault book ≡ None
+    passed-all = accepted book passed-blocks (sym first-there ∙ fault-of-ok _ (holding (w .book) (ratio .0) (ratio .1)) set all)
+
+    pub holds-it : set ≡ decoded book
+    holds-it =
+        let pair : ratio ≡ (byte book 4, byte book 5) = (let g = opened-geared book passed-blocks in cc) in
+        value-of-ok _ (holding (w .book) (ratio .0) (ratio .1)) set all ∙
+        ap (λ x. holding (x .book) (ratio .0) (ratio .1)) started ∙
+        ap (λ r. holding book (r .0) (r .1)) pair

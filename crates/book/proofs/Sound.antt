@@ -1,0 +1,102 @@
+-- A block passes its checks exactly if it is sound, and a book that passes has one or two sound blocks.
+-- Assumes nothing.
+use mathlib.Core.Bool.{Bool, true, false, cond, not, _&&_}
+use mathlib.Core.List.{List}
+use mathlib.Core.Logic.{_⊎_, inl, inr}
+use mathlib.Core.Path.{_≡_, _∙_, refl, sym, ap}
+use Prim.Native.Nat.{ℕ, _+_, _*_, _%_, _<_, _≤_}
+use native.Mathlib.Omega.{arith}
+use lib.Dec.{eqb, leb}
+use lib.ListN.{length, drop}
+use Rattle.std.proofs.shelf.Tests.{and-parts, and-from, eqb-true, eq-eqb, ne-eqb, leb-true, cases-bool, cases-eq}
+use Rattle.std.proofs.shelf.Ways.{tells}
+use Rattle.std.specs.Options.{orOther}
+use Rattle.std.specs.declared.option.Option.{Option}
+use Rattle.std.specs.declared.option.Option.the-variants.{Some, None}
+use Rattle.plan.specs.Checks.{refuseIf}
+use Rattle.book.proofs.Opened.{open-at-512, open-at-1024}
+use Rattle.book.specs.Bytes.{byte, part, total, allZero}
+use Rattle.book.specs.Reading.{sumFits, headFits, countFits, ratioFits, blockFault, blockOf, openFault}
+use Rattle.book.specs.declared.fault.BookFault.{BookFault}
+use Rattle.book.specs.declared.fault.BookFault.the-variants.{Length, Sum, Head, Count, Ratio, Reserved}
+
+pub record Sound (block : List ℕ) (at blocks : ℕ) : Type 0 where
+  pub sum : total block 128 % 4294967296 ≡ 0
+  pub kind : byte block 0 ≡ 1
+  pub place : byte block 1 ≡ at
+  pub among : byte block 2 ≡ blocks
+  pub count : countFits (byte block 3) at blocks ≡ true
+  pub ratio : ratioFits (byte block 4) (byte block 5) at ≡ true
+  pub reserved : allZero (part block 6 22) ≡ true
+  pub unused : allZero (drop (32 + 32 * byte block 3) block) ≡ true
+
+module _ {E : Type 0} where
+  passed : (b : Bool) (e : E) (rest : Option E) → refuseIf (not b) e rest ≡ None → (b ≡ true) × (rest ≡ None)
+  passed true e rest p = (refl, p)
+  passed false e rest p = let z : _≡_ {A = ℕ} 0 1 = cc in absurd (omega arith)
+
+  passes : {b : Bool} {rest : Option E} (e : E) → b ≡ true → rest ≡ None → refuseIf (not b) e rest ≡ None
+  passes {b} {rest} e p q = ap (λ x. refuseIf (not x) e rest) p ∙ q
+
+  pub both-pass : (o p : Option E) → orOther o p ≡ None → (o ≡ None) × (p ≡ None)
+  both-pass None p e = (refl, e)
+  both-pass (Some x) p e = let z : _≡_ {A = ℕ} 0 1 = cc in absurd (omega arith)
+
+module _ (block : List ℕ) (at blocks : ℕ) where
+  pub passed-is-sound : blockFault block at blocks ≡ None → Sound block at blocks
+  unfolding blockFault
+  passed-is-sound none =
+      let a = passed (sumFits block) (Sum at) _ none in
+      let b = passed (headFits block at blocks) (Head at) _ (a .1) in
+      let c = passed (countFits (byte block 3) at blocks) (Count at) _ (b .1) in
+      let d = passed (ratioFits (byte block 4) (byte block 5) at) (Ratio at) _ (c .1) in
+      let e = passed (allZero (part block 6 22)) (Reserved at) _ (d .1) in
+      let f = passed (allZero (drop (32 + 32 * byte block 3) block)) (Reserved at) None (e .1) in
+      let h = and-parts (eqb (byte block 0) 1) _ (b .0) in
+      let i = and-parts (eqb (byte block 1) at) (eqb (byte block 2) blocks) (h .1) in
+      record {
+        sum = eqb-true _ 0 (a .0);
+        kind = eqb-true _ 1 (h .0);
+        place = eqb-true _ at (i .0);
+        among = eqb-true _ blocks (i .1);
+        count = c .0;
+        ratio = d .0;
+        reserved = e .0;
+        unused = f .0;
+      }
+
+  pub sound-passes : Sound block at blocks → blockFault block at blocks ≡ None
+  unfolding blockFault
+  sound-passes s =
+      let head : headFits block at blocks ≡ true =
+      and-from (eqb (byte block 0) 1) _ (eq-eqb _ 1 (s .kind)) (and-from (eqb (byte block 1) at) _ (eq-eqb _ at (s .place)) (eq-eqb _ blocks (s .among))) in
+      passes (Sum at) (eq-eqb (total block 128 % 4294967296) 0 (s .sum))
+      (passes (Head at) head
+      (passes (Count at) (s .count)
+      (passes (Ratio at) (s .ratio)
+      (passes (Reserved at) (s .reserved)
+      (passes (Reserved at) (s .unused) refl)))))
+
+-- one sound block, or two
+pub record Lone (book : List ℕ) : Type 0 where
+  pub long : length book ≡ 512
+  pub sound : Sound book 0 1
+
+pub record Two (book : List ℕ) : Type 0 where
+  pub long : length book ≡ 1024
+  pub first : Sound (blockOf book 0) 0 2
+  pub second : Sound (blockOf book 1) 1 2
+
+pub opened-is : (book : List ℕ) → openFault book ≡ None → Lone book ⊎ Two book
+opened-is book none =
+    elim (cases-eq (length book) 512) [
+      | inl e ↦ inl (record { long = e; sound = passed-is-sound book 0 1 (sym (open-at-512 book e) ∙ none) })
+      | inr n ↦ elim (cases-eq (length book) 1024) [
+        | inl e ↦ (let both = both-pass _ _ (sym (open-at-1024 book e) ∙ none) in
+            inr (record { long = e; first = passed-is-sound _ 0 2 (both .0); second = passed-is-sound _ 1 2 (both .1) }))
+        | inr m ↦ (let other : openFault book ≡ Some Length =
+            ap (λ b. cond b (blockFault (blockOf book 0) 0 1) (cond (eqb (length book) 1024) (orOther (blockFault (blockOf book 0) 0 2) (blockFault (blockOf book 1) 1 2)) (Some Length))) (ne-eqb _ 512 n) ∙
+            ap (λ b. cond b (orOther (blockFault (blockOf book 0) 0 2) (blockFault (blockOf book 1) 1 2)) (Some Length)) (ne-eqb _ 1024 m) in
+            let z : _≡_ {A = ℕ} 0 1 = cc in absurd (omega arith))
+      ]
+    ]

@@ -1,0 +1,29 @@
+-- Bytes that are all zero, one by one. Assumes nothing.
+use mathlib.Core.Bool.{true, false, not, _&&_}
+use mathlib.Core.List.{List, [], _∷_}
+use mathlib.Core.Path.{_≡_, _∙_, refl, sym, ap}
+use Prim.Native.Nat.{ℕ, _+_, _<_, _≤_}
+use lib.Dec.{eqb}
+use lib.ListN.{length, getD, drop}
+use Rattle.std.proofs.shelf.Lists.{at-drop-more, at-drop-all}
+use Rattle.std.proofs.shelf.Tests.{eq-eqb, ne-eqb}
+use Rattle.std.specs.declared.option.Option.{Option}
+use Rattle.std.specs.declared.option.Option.the-variants.{None}
+use Rattle.std.specs.declared.result.Result.{Result}
+use Rattle.plan.specs.Checks.{refuseIf}
+use Rattle.plan.specs.Refusals.{answer}
+use Rattle.book.specs.Bytes.{allZero}
+
+step : (xs : List ℕ) (i : ℕ) → i < length xs → allZero (drop i xs) ≡ (eqb (getD xs i 0) 0 && allZero (drop (i + 1) xs))
+step xs i below = at-drop-more allZero xs i 0 below
+
+pub zero-goes-on : (xs : List ℕ) (i : ℕ) → i < length xs → getD xs i 0 ≡ 0 → allZero (drop i xs) ≡ allZero xs → allZero (drop (i + 1) xs) ≡ allZero xs
+zero-goes-on xs i below zero rest =
+    sym (ap (λ b. b && allZero (drop (i + 1) xs)) (eq-eqb (getD xs i 0) 0 zero)) ∙ sym (step xs i below) ∙ rest
+
+pub not-zero-ends : (xs : List ℕ) (i : ℕ) → i < length xs → (getD xs i 0 ≡ 0 → ⊥) → allZero (drop i xs) ≡ allZero xs → allZero xs ≡ false
+not-zero-ends xs i below other rest =
+    sym rest ∙ step xs i below ∙ ap (λ b. b && allZero (drop (i + 1) xs)) (ne-eqb (getD xs i 0) 0 other)
+
+pub nothing-left : (xs : List ℕ) (i : ℕ) → length xs ≤ i → allZero (drop i xs) ≡ allZero xs → allZero xs ≡ true
+nothing-left xs i past rest = sym rest ∙ at-drop-all allZero xs i past

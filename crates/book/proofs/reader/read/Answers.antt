@@ -1,0 +1,64 @@
+use mathlib.Core.List.{List}
+use mathlib.Core.Path.{_≡_, _∙_, refl, sym, ap, subst}
+use Prim.Native.Nat.{ℕ}
+use native.Mathlib.Omega.{arith}
+use Rattle.std.proofs.shelf.Results.{err-from-errBy}
+use Rattle.std.proofs.shelf.Tests.{true≢false}
+use Rattle.std.specs.declared.option.Option.{Option}
+use Rattle.std.specs.declared.option.Option.the-variants.{Some, None}
+use Rattle.std.specs.declared.result.Result.the-variants.{Ok, Err}
+use Rattle.plan.proofs.Answered.{answer-accepted, answer-refused, fault-of-err, fault-of-ok, left-accepted, left-refused, value-of-ok}
+use Rattle.plan.specs.Checks.{gears}
+use Rattle.plan.specs.TaskSet.{TaskSet, taskSet}
+use Rattle.book.proofs.Readings.{has-a-ratio, holds-it, it-begins, its-book-passed, passed-all, refused-at-blocks, refused-by-record}
+use Rattle.book.specs.Cursors.{Walk, begun, walk}
+use Rattle.book.specs.Reading.{decoded, firstFault, openFault, records}
+use Rattle.book.proofs.reader.read.Needs as need
+
+pub returns-in-Break-cursor : need.returns-in-Break-cursor
+returns-in-Break-cursor c =
+    let book : List ℕ = c .args .book .now in
+    let exit = err-from-errBy (c .from-residual .result) (c .from-residual .ensures .1) in
+    let refused = refused-at-blocks book (fault-of-err (openFault book) (begun book) _ (c .in-Break-cursor .ensures tt .answer)) in
+    record {
+      answer = exit .1 ∙ ap Err (exit .2) ∙ answer-refused tt refused;
+      after = left-refused (decoded book) (taskSet (c .args .plan .now)) refused;
+      kept = λ _. refl;
+    }
+
+pub returns-in-rest : need.returns-in-rest
+returns-in-rest c =
+    absurd (has-a-ratio (c .args .book .now) (walk (c .in-Continue-cursor .cursor)) (c .in-Continue-cursor .ensures tt .answer) (c .in-rest .ensures tt))
+
+pub collected-requires : need.collected-requires
+collected-requires c κs =
+    let opened = c .in-Continue-cursor .ensures tt .answer in
+    record {
+      opened = its-book-passed (c .args .book .now) (walk (c .in-Continue-cursor .cursor)) opened;
+      begun = it-begins (c .args .book .now) (walk (c .in-Continue-cursor .cursor)) opened;
+    }
+
+pub returns-in-Break-plan : need.returns-in-Break-plan
+returns-in-Break-plan c =
+    let book : List ℕ = c .args .book .now in
+    let exit = err-from-errBy (c .from-residual-in-Break-plan .result) (c .from-residual-in-Break-plan .ensures .1) in
+    let refused = refused-by-record book (walk (c .in-Continue-cursor .cursor)) (c .in-Continue-cursor .ensures tt .answer) _ _ (c .in-Break-plan .ensures tt) in
+    record {
+      answer = exit .1 ∙ ap Err (exit .2) ∙ answer-refused tt refused;
+      after = left-refused (decoded book) (taskSet (c .args .plan .now)) refused;
+      kept = λ _. refl;
+    }
+
+pub returns : need.returns
+returns c =
+    let book : List ℕ = c .args .book .now in
+    let w : Walk = walk (c .in-Continue-cursor .cursor) in
+    let ratio : ℕ × ℕ = gears (c .in-Some .ratio) in
+    let set : TaskSet = taskSet (c .in-Continue-plan .field-0) in
+    let passed = passed-all book w (c .in-Continue-cursor .ensures tt .answer) ratio set (c .in-Some .ensures tt) (c .in-Continue-plan .ensures tt) in
+    let held = holds-it book w (c .in-Continue-cursor .ensures tt .answer) ratio set (c .in-Some .ensures tt) (c .in-Continue-plan .ensures tt) in
+    record {
+      answer = answer-accepted tt passed;
+      after = held ∙ left-accepted (decoded book) (taskSet (c .args .plan .now)) passed;
+      kept = λ e. absurd (true≢false e);
+    }

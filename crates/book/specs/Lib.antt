@@ -1,0 +1,5 @@
+pub mod Bytes
+pub mod Cursors
+pub mod Reading
+pub mod Refusals
+pub mod Writing
