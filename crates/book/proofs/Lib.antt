@@ -2,8 +2,12 @@ pub mod Filled
 pub mod Opened
 pub mod Readings
 pub mod Recorded
+pub mod Records
+pub mod Rewritten
 pub mod Sound
 pub mod Sums
+pub mod Turns
 pub mod Walked
 pub mod Writings
+pub mod Written
 pub mod Zeros

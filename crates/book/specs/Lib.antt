@@ -2,4 +2,5 @@ pub mod Bytes
 pub mod Cursors
 pub mod Reading
 pub mod Refusals
+pub mod RoundTrip
 pub mod Writing

@@ -3,6 +3,7 @@ ghost use mathlib.Core.Bool.{false};
 ghost use mathlib.Core.Path.{_≡_};
 ghost use lib.ListN.{length, drop};
 ghost use Rattle.std.specs.Results.{isOk, mapped};
+ghost use Rattle.std.specs.Vec.{made};
 ghost use Rattle.std.specs.declared.option.Option.the-variants.{None};
 ghost use Rattle.plan.specs.Refusals.{answer, left};
 ghost use Rattle.plan.specs.Checks.{parametersOf};
@@ -14,6 +15,7 @@ use super::cursor::Cursor;
 use super::cursor::Record;
 use super::fault::BookFault;
 use super::fault::BookFaultFromRecord;
+ghost use Rattle.book.specs.Writing.{encoded};
 use plan::draft::Draft;
 use plan::fault::Place;
 use plan::fault::RecordError;
@@ -75,6 +77,7 @@ pub fn read(book: &[u8], plan: &mut Plan) -> Result<(), BookFault>
     ensures answer { λ r. ⌜ r ≡ answer (readFault (now (book .entry))) tt ⌝ }
     ensures after { λ _. ⌜ taskSet (now (plan .exit)) ≡ left (readFault (now (book .entry))) (decoded (now (book .entry))) (taskSet (now (plan .entry))) ⌝ }
     ensures kept { λ r. ⌜ (isOk r ≡ false → now (plan .exit) ≡ now (plan .entry)) ⌝ }
+    ensures rewrites { λ r. ⌜ made r (λ _. encoded (taskSet (now (plan .exit))) ≡ now (book .entry)) ⌝ }
 {
     let cursor = Cursor::open(book)?;
     let Some(ratio) = Ratio::new(book[4], book[5]) else {

@@ -4,8 +4,10 @@ ghost use mathlib.Core.Path.{_≡_};
 ghost use Prim.Native.Nat.{_+_, _*_, _≤_};
 ghost use lib.ListN.{length, replicate, take};
 ghost use Rattle.std.specs.Finite.{nth};
+ghost use Rattle.std.specs.Vec.{made};
 ghost use Rattle.plan.specs.Refusals.{answer, left};
 ghost use Rattle.plan.specs.TaskSet.{taskSet, parameters, paced};
+ghost use Rattle.book.specs.RoundTrip.{ReadsAs};
 ghost use Rattle.book.specs.Writing.{over, recordBytes, slot, recordsOf, headOf, blockBytes, blocksFor, encoded, writeFault};
 use super::block::BLOCK;
 use super::block::RECORD;
@@ -121,6 +123,7 @@ fn blocks_for(plan: &Plan) -> usize
 pub fn write(plan: &Plan, buffer: &mut [u8]) -> Result<usize, BookFault>
     ensures answer { λ r. ⌜ r ≡ answer (writeFault (taskSet (now (plan .entry))) (length (now (buffer .entry)))) (512 * blocksFor (taskSet (now (plan .entry)))) ⌝ }
     ensures after { λ _. ⌜ now (buffer .exit) ≡ left (writeFault (taskSet (now (plan .entry))) (length (now (buffer .entry)))) (over (now (buffer .entry)) 0 (encoded (taskSet (now (plan .entry))))) (now (buffer .entry)) ⌝ }
+    ensures reads_back { λ r. ⌜ made r (λ n. ReadsAs (take n (now (buffer .exit))) (taskSet (now (plan .entry)))) ⌝ }
 {
     let blocks = blocks_for(plan);
     if buffer.len() < BLOCK * blocks {

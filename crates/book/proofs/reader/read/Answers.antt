@@ -2,7 +2,7 @@ use mathlib.Core.List.{List}
 use mathlib.Core.Path.{_≡_, _∙_, refl, sym, ap, subst}
 use Prim.Native.Nat.{ℕ}
 use native.Mathlib.Omega.{arith}
-use Rattle.std.proofs.shelf.Results.{err-from-errBy}
+use Rattle.std.proofs.shelf.Results.{err-from-errBy, made-from-err}
 use Rattle.std.proofs.shelf.Tests.{true≢false}
 use Rattle.std.specs.declared.option.Option.{Option}
 use Rattle.std.specs.declared.option.Option.the-variants.{Some, None}
@@ -10,9 +10,11 @@ use Rattle.std.specs.declared.result.Result.the-variants.{Ok, Err}
 use Rattle.plan.proofs.Answered.{answer-accepted, answer-refused, fault-of-err, fault-of-ok, left-accepted, left-refused, value-of-ok}
 use Rattle.plan.specs.Checks.{gears}
 use Rattle.plan.specs.TaskSet.{TaskSet, taskSet}
+use Rattle.book.proofs.Rewritten.{written-again}
 use Rattle.book.proofs.Readings.{has-a-ratio, holds-it, it-begins, its-book-passed, passed-all, refused-at-blocks, refused-by-record}
 use Rattle.book.specs.Cursors.{Walk, begun, walk}
 use Rattle.book.specs.Reading.{decoded, firstFault, openFault, records}
+use Rattle.book.specs.Writing.{encoded}
 use Rattle.book.proofs.reader.read.Needs as need
 
 pub returns-in-Break-cursor : need.returns-in-Break-cursor
@@ -24,6 +26,7 @@ returns-in-Break-cursor c =
       answer = exit .1 ∙ ap Err (exit .2) ∙ answer-refused tt refused;
       after = left-refused (decoded book) (taskSet (c .args .plan .now)) refused;
       kept = λ _. refl;
+      rewrites = made-from-err (c .from-residual .result) _ (c .from-residual .ensures .0);
     }
 
 pub returns-in-rest : need.returns-in-rest
@@ -47,6 +50,7 @@ returns-in-Break-plan c =
       answer = exit .1 ∙ ap Err (exit .2) ∙ answer-refused tt refused;
       after = left-refused (decoded book) (taskSet (c .args .plan .now)) refused;
       kept = λ _. refl;
+      rewrites = made-from-err (c .from-residual-in-Break-plan .result) _ (c .from-residual-in-Break-plan .ensures .0);
     }
 
 pub returns : need.returns
@@ -61,4 +65,5 @@ returns c =
       answer = answer-accepted tt passed;
       after = held ∙ left-accepted (decoded book) (taskSet (c .args .plan .now)) passed;
       kept = λ e. absurd (true≢false e);
+      rewrites = ap encoded held ∙ written-again book (λ i. omega (arith, c .typed .book i)) passed;
     }

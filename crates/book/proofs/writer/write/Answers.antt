@@ -1,9 +1,9 @@
 use mathlib.Core.Bool.{not}
 use mathlib.Core.List.{List}
-use mathlib.Core.Path.{_≡_, _∙_, sym, ap}
+use mathlib.Core.Path.{_≡_, _∙_, sym, ap, subst}
 use Prim.Native.Nat.{ℕ, _*_}
 use native.Mathlib.Omega.{arith}
-use lib.ListN.{length}
+use lib.ListN.{length, take}
 use Rattle.std.proofs.shelf.Tests.{le-ltb}
 use Rattle.std.specs.declared.option.Option.{Option}
 use Rattle.std.specs.declared.option.Option.the-variants.{None}
@@ -12,6 +12,8 @@ use Rattle.plan.proofs.Answered.{answer-accepted, left-accepted}
 use Rattle.plan.specs.Checks.{refuseIf}
 use Rattle.plan.specs.TaskSet.{TaskSet, taskSet}
 use Rattle.book.proofs.Writings.{block-more, blocks-end, blocks-start}
+use Rattle.book.proofs.Written.{buffer-reads-back}
+use Rattle.book.specs.RoundTrip.{ReadsAs}
 use Rattle.book.specs.Writing.{blocksFor, encoded, over, writeFault}
 use Rattle.book.specs.declared.fault.BookFault.the-variants.{Buffer}
 use Rattle.book.proofs.writer.write.Needs as need
@@ -31,8 +33,11 @@ returns c =
     let blocks = c .blocks-for-blocks .ensures in
     let fits : writeFault set (length B) ≡ None =
     ap (λ b. refuseIf b Buffer None) (le-ltb (length B) (512 * blocksFor set) (omega (arith, c .if-buffer-blocks .left))) in
+    let written = blocks-end set B (c .loop-place .buffer) (c .blocks-for-blocks .result) (c .loop-place .place) (omega arith) blocks (c .loop-place .inv) in
     record {
       answer = ap (λ n. Ok (512 * n)) blocks ∙ answer-accepted (512 * blocksFor set) fits;
-      after = blocks-end set B (c .loop-place .buffer) (c .blocks-for-blocks .result) (c .loop-place .place) (omega arith) blocks (c .loop-place .inv) ∙
-          left-accepted (over B 0 (encoded set)) B fits;
+      after = written ∙ left-accepted (over B 0 (encoded set)) B fits;
+      reads-back =
+          subst (λ b. ReadsAs (take (512 * c .blocks-for-blocks .result) b) set) (sym written)
+          (buffer-reads-back (c .args .plan .now) B (512 * c .blocks-for-blocks .result) (ap (λ n. 512 * n) blocks));
     }
