@@ -1,20 +1,17 @@
 -- Adding the records of an opened book to a plan, one after the other. Assumes nothing.
 use mathlib.Core.Bool.{Bool, true, false, cond}
-use mathlib.Core.List.{List, [], _∷_, _++_, map}
-use mathlib.Core.Logic.{_⊎_, inl, inr}
-use mathlib.Core.Path.{_≡_, _∙_, refl, sym, ap, subst}
-use Prim.Native.Nat.{ℕ, zero, suc, _+_, _*_, _-_, _/_, _%_, _<_, _≤_}
+use mathlib.Core.List.{List, []}
+use mathlib.Core.Logic.{inl, inr}
+use mathlib.Core.Path.{_≡_, _∙_, refl, sym, ap}
+use Prim.Native.Nat.{ℕ, zero, suc, _+_, _-_, _<_, _≤_}
 use native.Mathlib.Numerals.{add-one}
 use native.Mathlib.Omega.{arith}
 use lib.Dec.{ltb, leb}
 use lib.ListN.{length, length-take, length-drop}
 use Rattle.std.proofs.shelf.Counted.{length-map-counting, map-counting-more}
 use Rattle.std.proofs.shelf.Tests.{ltb-true, ltb-false, lt-ltb, lt-leb}
-use Rattle.std.specs.Iters.{counting}
 use Rattle.std.specs.Options.{orOther}
-use Rattle.std.specs.declared.option.Option.{Option}
 use Rattle.std.specs.declared.option.Option.the-variants.{Some, None}
-use Rattle.std.specs.declared.result.Result.{Result}
 use Rattle.std.specs.declared.result.Result.the-variants.{Ok, Err}
 use Rattle.plan.proofs.Answered.{fault-of-err, fault-of-ok, value-of-ok}
 use Rattle.plan.specs.Checks.{appended, parametersOf, withTask}
@@ -23,10 +20,10 @@ use Rattle.plan.specs.TaskSet.{Parameters, TaskSet}
 use Rattle.plan.specs.declared.fault.Place.{Place}
 use Rattle.plan.specs.declared.fault.Place.the-variants as place
 use Rattle.plan.specs.declared.fault.RecordFault.{RecordFault}
-use Rattle.book.proofs.Sound.{Lone, Two, opened-is}
+use Rattle.book.proofs.Sound.{opened-is}
 use Rattle.book.proofs.Walked.{opened-has, lone-count, first-count, second-count, records-of-lone, records-of-two}
 use Rattle.book.specs.Cursors.{Walk, Seen, begun, has, handedOut, recordSeen, stepped}
-use Rattle.book.specs.Reading.{draftOf, faultOf, firstFault, holding, offset, openFault, recordAt, recordFault, records, taskAt, tasksOf}
+use Rattle.book.specs.Reading.{draftOf, faultOf, firstFault, holding, openFault, recordFault, records, taskAt, tasksOf}
 
 -- the task set that has taken the first n records
 abbrev pub taken : List ℕ → ℕ → ℕ → ℕ → TaskSet

@@ -1,22 +1,20 @@
 -- What the checks of the blocks and of the records make of the whole book. Assumes nothing.
-use mathlib.Core.Bool.{Bool, true, false, cond, not}
+use mathlib.Core.Bool.{false, cond}
 use mathlib.Core.List.{List}
-use mathlib.Core.Logic.{_⊎_, inl, inr}
-use mathlib.Core.Path.{_≡_, _∙_, refl, sym, ap}
+use mathlib.Core.Logic.{inl, inr}
+use mathlib.Core.Path.{_≡_, _∙_, sym, ap}
 use Prim.Native.Nat.{ℕ}
 use native.Mathlib.Omega.{arith}
 use Rattle.std.proofs.shelf.Tests.{not-true}
 use Rattle.std.specs.Options.{mapped, orOther}
-use Rattle.std.specs.declared.option.Option.{Option}
 use Rattle.std.specs.declared.option.Option.the-variants.{Some, None}
-use Rattle.std.specs.declared.result.Result.{Result}
 use Rattle.std.specs.declared.result.Result.the-variants.{Ok, Err}
 use Rattle.plan.proofs.Answered.{fault-of-err, fault-of-ok, value-of-ok}
 use Rattle.plan.specs.Checks.{outOfGear, geared}
 use Rattle.plan.specs.Refusals.{answer}
 use Rattle.plan.specs.TaskSet.{TaskSet}
 use Rattle.plan.specs.declared.fault.RecordFault.{RecordFault}
-use Rattle.book.proofs.Sound.{Lone, Two, opened-is}
+use Rattle.book.proofs.Sound.{opened-is}
 use Rattle.book.proofs.Walked.{byte-of-block}
 use Rattle.book.specs.Bytes.{byte}
 use Rattle.book.specs.Cursors.{Walk, begun}

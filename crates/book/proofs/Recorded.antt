@@ -1,18 +1,16 @@
 -- The checks of a record, one call after the other, are the first fault of its bytes. Assumes nothing.
 use mathlib.Core.Bool.{Bool, true, false, not}
 use mathlib.Core.List.{List}
-use mathlib.Core.Path.{_≡_, _∙_, refl, sym, ap, subst}
+use mathlib.Core.Path.{_≡_, _∙_, refl, sym, ap}
 use Prim.Native.Nat.{ℕ}
 use native.Mathlib.Omega.{arith}
 use lib.ListN.{drop}
 use Rattle.std.specs.Options.{mapped, orOther}
 use Rattle.std.specs.declared.option.Option.{Option}
 use Rattle.std.specs.declared.option.Option.the-variants.{Some, None}
-use Rattle.std.specs.declared.result.Result.{Result}
 use Rattle.std.specs.declared.result.Result.the-variants.{Ok, Err}
 use Rattle.plan.proofs.Answered.{fault-of-err, fault-of-ok, value-of-ok}
 use Rattle.plan.specs.Checks.{checked, faultAt, firstError, parametersOf, recordFault as draftFault, refuseIf}
-use Rattle.plan.specs.Refusals.{answer}
 use Rattle.plan.specs.TaskSet.{Parameters}
 use Rattle.plan.specs.declared.draft.Draft.{Draft}
 use Rattle.plan.specs.declared.fault.Place.{Place}

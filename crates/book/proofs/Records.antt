@@ -1,26 +1,24 @@
 -- A task's record read, and a record's task written. Assumes nothing.
-use mathlib.Core.Bool.{Bool, true, false, not, cond, _||_}
-use mathlib.Core.List.{List, [], _∷_, _++_}
-use mathlib.Core.Path.{_≡_, _∙_, refl, sym, ap}
-use Prim.Native.Nat.{ℕ, suc, _+_, _*_, _/_, _%_, _<_, _≤_}
+use mathlib.Core.Bool.{Bool, true, false, not, _||_}
+use mathlib.Core.List.{List}
+use mathlib.Core.Path.{_≡_, _∙_, refl, ap}
+use Prim.Native.Nat.{ℕ, _+_, _*_, _/_, _%_, _≤_}
 use native.Mathlib.Omega.{arith}
 use lib.Dec.{eqb, ltb}
-use lib.ListN.{length, getD, replicate, take, drop, length-drop}
-use Rattle.std.proofs.shelf.Lists.{take-append-drop, take-more}
+use lib.ListN.{drop}
 use Rattle.std.proofs.shelf.Tests.{le-ltb, ltb-false, ne-eqb, not-false, or-from}
 use Rattle.std.specs.Options.{orOther}
 use Rattle.std.specs.declared.option.Option.{Option}
-use Rattle.std.specs.declared.option.Option.the-variants.{Some, None}
+use Rattle.std.specs.declared.option.Option.the-variants.{None}
 use Rattle.plan.specs.Bounds.{Timed, Constrained}
 use Rattle.plan.specs.Checks.{firstError, parametersOf, refuseIf, speedOf}
 use Rattle.plan.specs.TaskSet.{Parameters, paced}
 use Rattle.plan.specs.declared.draft.Draft.{Draft}
-use Rattle.plan.specs.declared.fault.RecordError.{RecordError}
 use Rattle.plan.specs.declared.fault.RecordError.the-variants.{Period, Deadline, Work, Constraint, SpeedOrRest}
 use Rattle.plan.specs.declared.task.Speed.{Speed}
 use Rattle.plan.specs.declared.task.Speed.the-variants.{High, Low}
 use Rattle.book.proofs.Sound.{both-pass}
-use Rattle.book.specs.Bytes.{allZero, byte, word16}
+use Rattle.book.specs.Bytes.{allZero, byte}
 use Rattle.book.specs.Reading.{draftOf, recordError}
 use Rattle.book.specs.Writing.{recordBytes}
 

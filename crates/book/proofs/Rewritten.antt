@@ -1,37 +1,33 @@
 -- An accepted book, written again, has the same bytes. Assumes nothing.
-use mathlib.Core.Bool.{Bool, true, false, cond, not}
-use mathlib.Core.List.{List, [], _∷_, _++_, map}
-use mathlib.Core.Logic.{_⊎_, inl, inr, ⊎-elim}
+use mathlib.Core.Bool.{true, cond}
+use mathlib.Core.List.{List, [], _∷_, _++_}
+use mathlib.Core.Logic.{inl, inr, ⊎-elim}
 use mathlib.Core.Path.{_≡_, _∙_, refl, sym, ap, subst}
-use Prim.Native.Nat.{ℕ, zero, suc, min, _+_, _*_, _-_, _/_, _%_, _<_, _≤_}
-use native.Mathlib.Nat.{div-div-eq-div-mul, zero-add}
+use Prim.Native.Nat.{ℕ, zero, suc, _+_, _*_, _-_, _/_, _%_, _<_, _≤_}
+use native.Mathlib.Nat.{zero-add}
 use native.Mathlib.Numerals.{add-one}
 use native.Mathlib.Omega.{arith}
-use lib.Dec.{eqb, leb, ltb}
-use lib.ListN.{length, getD, replicate, take, drop}
+use lib.Dec.{eqb}
+use lib.ListN.{length, replicate, take, drop}
 use Rattle.std.proofs.shelf.Counted.{getD-map-counting, length-map-counting}
-use Rattle.std.proofs.shelf.Lists.{append-assoc, drop-all, drop-drop, getD-past, length-drop, length-take-le, drop-take, take-all, take-append-drop, take-more, take-take}
+use Rattle.std.proofs.shelf.Lists.{drop-drop, getD-past, length-drop, length-take-le, drop-take, take-all, take-append-drop, take-more, take-take}
 use Rattle.std.proofs.shelf.Maps.{nth-getD, nth-past}
-use Rattle.std.proofs.shelf.Tests.{and-parts, cases-lt, eqb-true, le-leb, leb-true, lt-leb, ltb-false, not-true}
+use Rattle.std.proofs.shelf.Tests.{and-parts, cases-lt, eqb-true, le-leb, lt-leb}
 use Rattle.std.specs.Finite.{nth}
-use Rattle.std.specs.Iters.{counting}
-use Rattle.std.specs.Options.{mapped, orOther}
+use Rattle.std.specs.Options.{mapped}
 use Rattle.std.specs.declared.option.Option.{Option}
 use Rattle.std.specs.declared.option.Option.the-variants.{Some, None}
-use Rattle.plan.specs.Checks.{faultAt, firstError, parametersOf, refuseIf, speedOf}
-use Rattle.plan.specs.TaskSet.{Parameters, TaskSet, paced}
-use Rattle.plan.specs.declared.draft.Draft.{Draft}
+use Rattle.plan.specs.Checks.{faultAt, parametersOf, speedOf}
+use Rattle.plan.specs.TaskSet.{TaskSet, paced}
 use Rattle.plan.specs.declared.fault.Place.the-variants as place
-use Rattle.plan.specs.declared.fault.RecordError.{RecordError}
-use Rattle.plan.specs.declared.fault.RecordFault.{RecordFault}
 use Rattle.book.proofs.Filled.{first-more}
 use Rattle.book.proofs.Opened.{lone-block}
 use Rattle.book.proofs.Records.{rest-passed, speed-passed}
-use Rattle.book.proofs.Sound.{Lone, Sound, Two, both-pass, opened-is}
+use Rattle.book.proofs.Sound.{Sound, both-pass, opened-is}
 use Rattle.book.proofs.Sums.{total-append, total-more, total-none}
 use Rattle.book.proofs.Turns.{byte-of-part, part-long, part-of-part, parts-in-turn, turn-same, zero-part, zeros-are-zero}
 use Rattle.book.proofs.Walked.{byte-of-block, first-count, lone-count, records-of-lone, records-of-two, second-count}
-use Rattle.book.specs.Bytes.{allZero, byte, bytes16, bytes32, part, total, word16, word32}
+use Rattle.book.specs.Bytes.{allZero, byte, bytes32, part, total, word32}
 use Rattle.book.specs.Reading.{blockOf, decoded, draftOf, faultOf, firstFault, openFault, readFault, recordAt, recordError, records, taskAt, tasksOf}
 use Rattle.book.specs.Refusals.{inBook}
 use Rattle.book.specs.Writing.{blockBytes, blocksFor, checkOf, encoded, headOf, inTurn, recordBytes, recordsOf, slot, slotAt, used}

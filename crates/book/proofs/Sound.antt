@@ -1,15 +1,14 @@
 -- A block passes its checks exactly if it is sound, and a book that passes has one or two sound blocks.
 -- Assumes nothing.
-use mathlib.Core.Bool.{Bool, true, false, cond, not, _&&_}
+use mathlib.Core.Bool.{Bool, true, false, cond, not}
 use mathlib.Core.List.{List}
 use mathlib.Core.Logic.{_⊎_, inl, inr}
 use mathlib.Core.Path.{_≡_, _∙_, refl, sym, ap}
-use Prim.Native.Nat.{ℕ, _+_, _*_, _%_, _<_, _≤_}
+use Prim.Native.Nat.{ℕ, _+_, _*_, _%_}
 use native.Mathlib.Omega.{arith}
-use lib.Dec.{eqb, leb}
+use lib.Dec.{eqb}
 use lib.ListN.{length, drop}
-use Rattle.std.proofs.shelf.Tests.{and-parts, and-from, eqb-true, eq-eqb, ne-eqb, leb-true, cases-bool, cases-eq}
-use Rattle.std.proofs.shelf.Ways.{tells}
+use Rattle.std.proofs.shelf.Tests.{and-parts, and-from, eqb-true, eq-eqb, ne-eqb, cases-eq}
 use Rattle.std.specs.Options.{orOther}
 use Rattle.std.specs.declared.option.Option.{Option}
 use Rattle.std.specs.declared.option.Option.the-variants.{Some, None}
@@ -17,7 +16,6 @@ use Rattle.plan.specs.Checks.{refuseIf}
 use Rattle.book.proofs.Opened.{open-at-512, open-at-1024}
 use Rattle.book.specs.Bytes.{byte, part, total, allZero}
 use Rattle.book.specs.Reading.{sumFits, headFits, countFits, ratioFits, blockFault, blockOf, openFault}
-use Rattle.book.specs.declared.fault.BookFault.{BookFault}
 use Rattle.book.specs.declared.fault.BookFault.the-variants.{Length, Sum, Head, Count, Ratio, Reserved}
 
 pub record Sound (block : List ℕ) (at blocks : ℕ) : Type 0 where

@@ -1,7 +1,7 @@
 -- Byte strings of one width, one after the other: their parts, and what is zero in them. Assumes nothing.
-use mathlib.Core.Bool.{Bool, true, false, _&&_}
+use mathlib.Core.Bool.{true}
 use mathlib.Core.List.{List, [], _∷_, _++_}
-use mathlib.Core.Logic.{_⊎_, inl, inr}
+use mathlib.Core.Logic.{inl, inr}
 use mathlib.Core.Path.{_≡_, _∙_, refl, sym, ap}
 use Prim.Native.Nat.{ℕ, zero, suc, _+_, _*_, _-_, _<_, _≤_}
 use native.Mathlib.Nat.{mul-suc, mul-zero, mul-le-mul-left}
@@ -9,8 +9,8 @@ use native.Mathlib.Numerals.{add-one}
 use native.Mathlib.Omega.{arith}
 use lib.Dec.{eqb}
 use lib.ListN.{length, getD, replicate, take, drop, length-take, length-drop}
-use Rattle.std.proofs.shelf.Lists.{append-nil, drop-all, drop-append-le, drop-at, drop-drop, drop-take, getD-drop, getD-take, length-append, length-take-le, same-lists, take-all, take-append-drop, take-append-le, take-at, take-take}
-use Rattle.std.proofs.shelf.Tests.{and-from, and-parts, cases-eq, cases-lt, eqb-true}
+use Rattle.std.proofs.shelf.Lists.{drop-all, drop-append-le, drop-at, drop-drop, drop-take, getD-drop, getD-take, take-all, take-append-drop, take-append-le, take-take}
+use Rattle.std.proofs.shelf.Tests.{and-from, and-parts, cases-lt, eqb-true}
 use Rattle.book.proofs.Writings.{turn-long, turn-more, turn-none}
 use Rattle.book.specs.Bytes.{allZero, part}
 use Rattle.book.specs.Writing.{inTurn}

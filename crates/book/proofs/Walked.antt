@@ -1,22 +1,20 @@
 -- A cursor over an opened book hands out its records in turn, and then nothing. Assumes nothing.
-use mathlib.Core.Bool.{Bool, true, false, cond, _&&_}
+use mathlib.Core.Bool.{true, cond}
 use mathlib.Core.List.{List}
 use mathlib.Core.Logic.{_⊎_, inl, inr}
-use mathlib.Core.Path.{_≡_, _∙_, refl, sym, ap}
+use mathlib.Core.Path.{_≡_, _∙_, sym, ap}
 use Prim.Native.Nat.{ℕ, zero, suc, min, _+_, _*_, _-_, _/_, _%_, _<_, _≤_}
 use native.Mathlib.Nat.{add-zero}
-use native.Mathlib.Numerals.{add-one}
 use native.Mathlib.Omega.{arith}
-use lib.Dec.{eqb, ltb, leb}
+use lib.Dec.{ltb, leb}
 use lib.ListN.{length, take, drop}
 use Rattle.std.proofs.shelf.Lists.{getD-take, getD-drop}
-use Rattle.std.proofs.shelf.Tests.{and-from, lt-ltb, le-ltb, le-leb, lt-leb, eq-eqb, ne-eqb, cases-lt, ltb-true, ltb-false, leb-true, eqb-true, and-parts, cases-bool}
+use Rattle.std.proofs.shelf.Tests.{and-from, lt-ltb, le-ltb, le-leb, eq-eqb, ne-eqb, cases-lt, ltb-true, leb-true, eqb-true, and-parts, cases-bool}
 use Rattle.std.proofs.shelf.Ways.{tells}
-use Rattle.std.specs.declared.option.Option.{Option}
 use Rattle.std.specs.declared.option.Option.the-variants.{Some, None}
 use Rattle.book.proofs.Sound.{Lone, Two, opened-is}
 use Rattle.book.specs.Bytes.{byte}
-use Rattle.book.specs.Cursors.{Walk, Seen, begun, has, handedOut, recordSeen, stepped, steps, InOrder}
+use Rattle.book.specs.Cursors.{Walk, begun, has, handedOut, recordSeen, stepped, steps, InOrder}
 use Rattle.book.specs.Reading.{blockOf, offset, openFault, records, recordAt}
 
 pub has-it : (book : List ℕ) (n : ℕ) → n < 30 → 512 * (n / 15) + 512 ≤ length book → n % 15 < byte book (512 * (n / 15) + 3) → has book n ≡ true

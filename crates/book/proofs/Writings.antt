@@ -1,13 +1,13 @@
 -- Writing parts of a block over what stood there. Assumes nothing.
-use mathlib.Core.List.{List, [], _∷_, _++_, append-assoc}
+use mathlib.Core.List.{List, [], _++_, append-assoc}
 use mathlib.Core.Path.{_≡_, _∙_, refl, sym, ap}
-use Prim.Native.Nat.{ℕ, zero, suc, _+_, _*_, _-_, _%_, _<_, _≤_}
+use Prim.Native.Nat.{ℕ, zero, suc, _+_, _*_, _%_}
 use native.Mathlib.Nat.{mul-suc, mul-zero, zero-add}
 use native.Mathlib.Numerals.{add-one}
 use native.Mathlib.Omega.{arith}
 use borrow.Rule.Slice.PartMut.{putMid}
-use lib.ListN.{length, replicate, take, drop, length-take}
-use Rattle.std.proofs.shelf.Lists.{append-nil, drop-all, drop-at, drop-drop, length-append, length-take-le, take-append-drop, take-at}
+use lib.ListN.{length, replicate, take, drop}
+use Rattle.std.proofs.shelf.Lists.{append-nil, drop-all, drop-at, drop-drop, length-append, take-append-drop, take-at}
 use Rattle.std.specs.declared.option.Option.{Option}
 use Rattle.std.specs.declared.option.Option.the-variants.{Some, None}
 use Rattle.std.specs.Finite.{nth}

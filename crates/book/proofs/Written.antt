@@ -1,23 +1,19 @@
 -- The book of a plan is accepted, and holds the plan's task set. Assumes nothing.
-use mathlib.Core.Bool.{Bool, true, false, cond, not, _||_}
+use mathlib.Core.Bool.{true, cond}
 use mathlib.Core.List.{List, [], _∷_, _++_, map}
-use mathlib.Core.Logic.{_⊎_, inl, inr}
+use mathlib.Core.Logic.{inl, inr}
 use mathlib.Core.Path.{_≡_, _∙_, refl, sym, ap, subst}
-use Prim.Native.Nat.{ℕ, zero, suc, min, _+_, _*_, _-_, _/_, _%_, _<_, _≤_}
+use Prim.Native.Nat.{ℕ, zero, suc, _+_, _*_, _/_, _%_, _<_, _≤_}
 use native.Mathlib.Nat.{div-div-eq-div-mul, zero-add}
-use native.Mathlib.Numerals.{add-one}
 use native.Mathlib.Omega.{arith}
 use lib.Dec.{eqb, leb, ltb}
-use lib.ListN.{length, getD, replicate, take, drop}
+use lib.ListN.{length, getD, take, drop}
 use Rattle.std.proofs.shelf.Counted.{getD-map-counting, length-map-counting}
-use Rattle.std.proofs.shelf.Lists.{append-assoc, drop-at, drop-drop, same-lists, take-all, take-at}
+use Rattle.std.proofs.shelf.Lists.{drop-at, drop-drop, same-lists, take-all, take-at}
 use Rattle.std.proofs.shelf.Maps.{nth-getD, nth-past}
 use Rattle.std.proofs.shelf.Tests.{and-from, cases-lt, eq-eqb, le-leb, le-ltb, lt-leb, ne-eqb, not-from-false, or-from}
-use Rattle.std.proofs.shelf.Ways.{tells}
 use Rattle.std.specs.Finite.{nth}
-use Rattle.std.specs.Iters.{counting}
 use Rattle.std.specs.Options.{mapped, orOther}
-use Rattle.std.specs.declared.option.Option.{Option}
 use Rattle.std.specs.declared.option.Option.the-variants.{Some, None}
 use Rattle.plan.specs.Bounds.{Geared}
 use Rattle.plan.specs.Checks.{faultAt, outOfGear, parametersOf}
@@ -27,7 +23,6 @@ use Rattle.plan.specs.declared.fault.Place.the-variants as place
 use Rattle.plan.specs.declared.plan.Plan.{Plan}
 use Rattle.plan.specs.declared.task.Speed.the-variants.{High}
 use Rattle.plan.specs.declared.task.Task.{Task}
-use Rattle.book.proofs.Filled.{first-more}
 use Rattle.book.proofs.Opened.{lone-block, open-at-512, open-at-1024}
 use Rattle.book.proofs.Readings.{accepted}
 use Rattle.book.proofs.Records.{Good, record-passes, task-back}
@@ -35,9 +30,9 @@ use Rattle.book.proofs.Sound.{Sound, sound-passes}
 use Rattle.book.proofs.Sums.{total-append, total-more, total-none}
 use Rattle.book.proofs.Turns.{part-of-part, turn-part, zero-after}
 use Rattle.book.proofs.Walked.{byte-of-block, records-of-lone, records-of-two}
-use Rattle.book.proofs.Writings.{block-long, book-long, slot-long, turn-more, turn-none}
+use Rattle.book.proofs.Writings.{block-long, book-long, slot-long}
 use Rattle.book.specs.Bytes.{allZero, byte, bytes32, part, total, word32}
-use Rattle.book.specs.Reading.{blockFault, blockOf, countFits, decoded, draftOf, faultOf, firstFault, offset, openFault, ratioFits, recordAt, recordError, recordFault, records, readFault, taskAt, tasksOf}
+use Rattle.book.specs.Reading.{blockFault, blockOf, countFits, draftOf, faultOf, firstFault, openFault, ratioFits, recordAt, recordFault, records, taskAt, tasksOf}
 use Rattle.book.specs.RoundTrip.{ReadsAs}
 use Rattle.book.specs.Writing.{blockBytes, blocksFor, checkOf, encoded, headOf, inTurn, over, recordBytes, recordsOf, slot, slotAt, used}
 

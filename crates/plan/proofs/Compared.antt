@@ -6,7 +6,7 @@ use native.Mathlib.Omega.{arith}
 use lib.ListN.{length, getD, take, length-take}
 use Rattle.std.proofs.shelf.Lists.{length-map, getD-map, getD-take, getD-default, map-more, map-push}
 use Rattle.plan.proofs.Listed.{tasks-are-count}
-use Rattle.plan.specs.TaskSet.{Same, Parameters, Timing, taskSet, parameters, timing}
+use Rattle.plan.specs.TaskSet.{Same, taskSet, parameters, timing}
 use Rattle.plan.specs.declared.plan.Plan.{Plan}
 use Rattle.plan.specs.declared.task.Task.{Task}
 

@@ -1,5 +1,4 @@
 -- The tasks of a plan are its rows below the count. Assumes nothing.
-use mathlib.Core.List.{List, map}
 use mathlib.Core.Path.{_≡_, _∙_, ap}
 use Prim.Native.Nat.{ℕ, _<_, _≤_}
 use native.Mathlib.Omega.{arith}
@@ -7,7 +6,6 @@ use lib.ListN.{length, getD, take, length-take}
 use Rattle.std.proofs.shelf.Lists.{length-map, getD-map, getD-take}
 use Rattle.std.proofs.shelf.Maps.{nth-getD, nth-past}
 use Rattle.std.specs.Finite.{nth}
-use Rattle.std.specs.declared.option.Option.{Option}
 use Rattle.std.specs.declared.option.Option.the-variants.{Some, None}
 use Rattle.plan.specs.TaskSet.{taskSet, parameters}
 use Rattle.plan.specs.declared.plan.Plan.{Plan}

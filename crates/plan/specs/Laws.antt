@@ -1,5 +1,5 @@
 -- What holds of every comparison of plans. Assumes nothing.
-use Rattle.plan.specs.TaskSet.{TaskSet, Same}
+use Rattle.plan.specs.TaskSet.{Same}
 
 pub record Equivalence {A : Type 0} (R : A → A → Type 0) : Type 0 where
   pub reflexive : (a : A) → R a a

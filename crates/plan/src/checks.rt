@@ -1,5 +1,5 @@
 // The checks that make a task of a draft, and the changes of a plan: a task more, another ratio.
-ghost use mathlib.Core.Bool.{Bool, false};
+ghost use mathlib.Core.Bool.{false};
 ghost use mathlib.Core.Path.{_≡_};
 ghost use Prim.Native.Nat.{_<_};
 ghost use lib.ListN.{length};

@@ -1,6 +1,5 @@
 use mathlib.Core.Bool.{not}
 use mathlib.Core.Path.{sym, ap}
-use Rattle.std.specs.declared.option.Option.{Option}
 use Rattle.std.specs.declared.option.Option.the-variants.{None}
 use Rattle.plan.specs.Checks.{refuseIf}
 use Rattle.plan.specs.Refusals.{answer}

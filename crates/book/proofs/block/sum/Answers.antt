@@ -1,8 +1,6 @@
-use mathlib.Core.Path.{_≡_, _∙_, refl, sym, ap}
-use Prim.Native.Nat.{ℕ, _+_, _%_}
-use native.Mathlib.Numerals.{add-one}
+use mathlib.Core.Path.{refl}
 use native.Mathlib.Omega.{arith}
-use Rattle.book.specs.Bytes.{total, word32}
+use Rattle.book.specs.Bytes.{total}
 use Rattle.book.proofs.Sums.{total-more}
 use Rattle.book.proofs.block.sum.Needs as need
 

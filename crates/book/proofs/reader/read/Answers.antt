@@ -1,19 +1,17 @@
 use mathlib.Core.List.{List}
-use mathlib.Core.Path.{_≡_, _∙_, refl, sym, ap, subst}
+use mathlib.Core.Path.{_∙_, refl, ap}
 use Prim.Native.Nat.{ℕ}
 use native.Mathlib.Omega.{arith}
 use Rattle.std.proofs.shelf.Results.{err-from-errBy, made-from-err}
 use Rattle.std.proofs.shelf.Tests.{true≢false}
-use Rattle.std.specs.declared.option.Option.{Option}
-use Rattle.std.specs.declared.option.Option.the-variants.{Some, None}
-use Rattle.std.specs.declared.result.Result.the-variants.{Ok, Err}
-use Rattle.plan.proofs.Answered.{answer-accepted, answer-refused, fault-of-err, fault-of-ok, left-accepted, left-refused, value-of-ok}
+use Rattle.std.specs.declared.result.Result.the-variants.{Err}
+use Rattle.plan.proofs.Answered.{answer-accepted, answer-refused, fault-of-err, left-accepted, left-refused}
 use Rattle.plan.specs.Checks.{gears}
 use Rattle.plan.specs.TaskSet.{TaskSet, taskSet}
 use Rattle.book.proofs.Rewritten.{written-again}
 use Rattle.book.proofs.Readings.{has-a-ratio, holds-it, it-begins, its-book-passed, passed-all, refused-at-blocks, refused-by-record}
 use Rattle.book.specs.Cursors.{Walk, begun, walk}
-use Rattle.book.specs.Reading.{decoded, firstFault, openFault, records}
+use Rattle.book.specs.Reading.{decoded, openFault}
 use Rattle.book.specs.Writing.{encoded}
 use Rattle.book.proofs.reader.read.Needs as need
 

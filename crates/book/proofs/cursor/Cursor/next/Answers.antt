@@ -6,7 +6,7 @@ use native.Mathlib.Omega.{arith}
 use Rattle.std.specs.declared.option.Option.{Option}
 use Rattle.std.specs.declared.option.Option.the-variants.{Some, None}
 use Rattle.book.proofs.Walked.{has-it, part-is-record}
-use Rattle.book.specs.Cursors.{Seen, Walk, recordSeen}
+use Rattle.book.specs.Cursors.{Seen, recordSeen}
 use Rattle.book.specs.Reading.{offset}
 use Rattle.book.proofs.cursor.Cursor.next.Needs as need
 

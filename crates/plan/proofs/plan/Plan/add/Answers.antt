@@ -1,16 +1,14 @@
-use mathlib.Core.Path.{_≡_, _∙_, refl, sym, ap}
+use mathlib.Core.Path.{_∙_, refl, sym, ap}
 use Rattle.std.proofs.shelf.Tests.{true≢false}
 use Rattle.std.proofs.shelf.Results.{err-from-errBy}
 use Rattle.std.specs.Options.{mapped}
-use Rattle.std.specs.declared.option.Option.{Option}
-use Rattle.std.specs.declared.option.Option.the-variants.{Some, None}
 use Rattle.std.specs.declared.result.Result.the-variants.{Ok, Err}
 use Rattle.plan.proofs.Added.{full-is-refused, room-leaves-the-record}
 use Rattle.plan.proofs.Answered.{fault-of-err, fault-of-ok, value-of-ok, answer-refused, answer-accepted, left-refused, left-accepted}
 use Rattle.plan.proofs.Listed.{tasks-are-count}
-use Rattle.plan.specs.Checks.{addFault, withTask, parametersOf, recordFault}
+use Rattle.plan.specs.Checks.{withTask, parametersOf, recordFault}
 use Rattle.plan.specs.Refusals.{answer, left, inPlan}
-use Rattle.plan.specs.TaskSet.{TaskSet, taskSet, Parameters}
+use Rattle.plan.specs.TaskSet.{TaskSet, taskSet}
 use Rattle.plan.specs.declared.draft.Draft.{Draft}
 use Rattle.plan.specs.declared.fault.Place.the-variants as place
 use Rattle.plan.specs.declared.plan.Plan.{Plan}

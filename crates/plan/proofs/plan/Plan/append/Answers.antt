@@ -8,7 +8,7 @@ use Rattle.std.specs.declared.option.Option.the-variants.{Some, None}
 use Rattle.plan.proofs.Added.{full-test, room-test}
 use Rattle.plan.proofs.Listed.{tasks-are-count}
 use Rattle.plan.specs.Checks.{withTask}
-use Rattle.plan.specs.TaskSet.{TaskSet, taskSet, parameters}
+use Rattle.plan.specs.TaskSet.{taskSet, parameters}
 use Rattle.plan.specs.declared.plan.Plan.{Plan}
 use Rattle.plan.proofs.plan.Plan.append.Needs as need
 

@@ -1,4 +1,3 @@
-use mathlib.Core.Path.{sym}
 use native.Mathlib.Omega.{arith}
 use Rattle.std.proofs.shelf.Tests.{false≢true, both-ways}
 use Rattle.plan.proofs.Compared.{same-counts, same-at, agree-more}
