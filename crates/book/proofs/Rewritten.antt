@@ -77,12 +77,12 @@ pub record-again : (xs : List ℕ) → length xs ≡ 32 → ((i : ℕ) → i < 3
 unfolding recordBytes
 record-again xs long fit passed =
     let rest : replicate 23 0 ≡ drop 9 xs =
-        ap (λ n. replicate n 0) (sym (length-drop 9 xs ∙ ap (λ n. n - 9) long)) ∙ sym (zeros-are-zero (drop 9 xs) (rest-passed xs passed)) in
+    ap (λ n. replicate n 0) (sym (length-drop 9 xs ∙ ap (λ n. n - 9) long)) ∙ sym (zeros-are-zero (drop 9 xs) (rest-passed xs passed)) in
     (λ i.
-      low-byte (byte xs 0) (byte xs 1) (fit 0 (omega arith)) (fit 1 (omega arith)) i ∷ high-byte (byte xs 0) (byte xs 1) (fit 0 (omega arith)) (fit 1 (omega arith)) i ∷
-      low-byte (byte xs 2) (byte xs 3) (fit 2 (omega arith)) (fit 3 (omega arith)) i ∷ high-byte (byte xs 2) (byte xs 3) (fit 2 (omega arith)) (fit 3 (omega arith)) i ∷
-      low-byte (byte xs 4) (byte xs 5) (fit 4 (omega arith)) (fit 5 (omega arith)) i ∷ high-byte (byte xs 4) (byte xs 5) (fit 4 (omega arith)) (fit 5 (omega arith)) i ∷
-      byte xs 6 ∷ byte xs 7 ∷ speed-byte (byte xs 8) (speed-passed xs passed) i ∷ rest i) ∙
+    low-byte (byte xs 0) (byte xs 1) (fit 0 (omega arith)) (fit 1 (omega arith)) i ∷ high-byte (byte xs 0) (byte xs 1) (fit 0 (omega arith)) (fit 1 (omega arith)) i ∷
+    low-byte (byte xs 2) (byte xs 3) (fit 2 (omega arith)) (fit 3 (omega arith)) i ∷ high-byte (byte xs 2) (byte xs 3) (fit 2 (omega arith)) (fit 3 (omega arith)) i ∷
+    low-byte (byte xs 4) (byte xs 5) (fit 4 (omega arith)) (fit 5 (omega arith)) i ∷ high-byte (byte xs 4) (byte xs 5) (fit 4 (omega arith)) (fit 5 (omega arith)) i ∷
+    byte xs 6 ∷ byte xs 7 ∷ speed-byte (byte xs 8) (speed-passed xs passed) i ∷ rest i) ∙
     ap (λ t. t ++ drop 9 xs) (sym (front-9 xs (omega arith))) ∙
     take-append-drop 9 xs
 
@@ -95,19 +95,22 @@ word-again xs long fit =
     let c = fit 2 (omega arith) in
     let d = fit 3 (omega arith) in
     (λ i. digit-0 (byte xs 0) (byte xs 1) (byte xs 2) (byte xs 3) a b c d i ∷
-      digit-1 (byte xs 0) (byte xs 1) (byte xs 2) (byte xs 3) a b c d i ∷
-      digit-2 (byte xs 0) (byte xs 1) (byte xs 2) (byte xs 3) a b c d i ∷
-      digit-3 (byte xs 0) (byte xs 1) (byte xs 2) (byte xs 3) a b c d i ∷ []) ∙
+    digit-1 (byte xs 0) (byte xs 1) (byte xs 2) (byte xs 3) a b c d i ∷
+    digit-2 (byte xs 0) (byte xs 1) (byte xs 2) (byte xs 3) a b c d i ∷
+    digit-3 (byte xs 0) (byte xs 1) (byte xs 2) (byte xs 3) a b c d i ∷ []) ∙
     sym (front-4 xs (omega arith)) ∙ take-all 4 xs (omega arith)
   where
-  digit-0 : (a b c d : ℕ) → a < 256 → b < 256 → c < 256 → d < 256 → (a + b * 256 + c * 65536 + d * 16777216) % 256 ≡ a
-  digit-0 a b c d p q r s = omega arith
-  digit-1 : (a b c d : ℕ) → a < 256 → b < 256 → c < 256 → d < 256 → (a + b * 256 + c * 65536 + d * 16777216) / 256 % 256 ≡ b
-  digit-1 a b c d p q r s = omega arith
-  digit-2 : (a b c d : ℕ) → a < 256 → b < 256 → c < 256 → d < 256 → (a + b * 256 + c * 65536 + d * 16777216) / 65536 % 256 ≡ c
-  digit-2 a b c d p q r s = omega arith
-  digit-3 : (a b c d : ℕ) → a < 256 → b < 256 → c < 256 → d < 256 → (a + b * 256 + c * 65536 + d * 16777216) / 16777216 % 256 ≡ d
-  digit-3 a b c d p q r s = omega arith
+    digit-0 : (a b c d : ℕ) → a < 256 → b < 256 → c < 256 → d < 256 → (a + b * 256 + c * 65536 + d * 16777216) % 256 ≡ a
+    digit-0 a b c d p q r s = omega arith
+
+    digit-1 : (a b c d : ℕ) → a < 256 → b < 256 → c < 256 → d < 256 → (a + b * 256 + c * 65536 + d * 16777216) / 256 % 256 ≡ b
+    digit-1 a b c d p q r s = omega arith
+
+    digit-2 : (a b c d : ℕ) → a < 256 → b < 256 → c < 256 → d < 256 → (a + b * 256 + c * 65536 + d * 16777216) / 65536 % 256 ≡ c
+    digit-2 a b c d p q r s = omega arith
+
+    digit-3 : (a b c d : ℕ) → a < 256 → b < 256 → c < 256 → d < 256 → (a + b * 256 + c * 65536 + d * 16777216) / 16777216 % 256 ≡ d
+    digit-3 a b c d p q r s = omega arith
 
 -- One block.
 
@@ -141,12 +144,12 @@ module _ (b : List ℕ) (long : length b ≡ 512) (fit : Bytes b) (i n : ℕ) (s
   check-value : word32 (part b 28 4) 0 ≡ checkOf (total (headOf set i n) 7 + total (recordsOf set i) 120)
   check-value =
       let parts : total b 128 ≡ total (take 28 b) 7 + (total (part b 28 4) 1 + total (drop 32 b) 120) =
-          ap (λ x. total x 128) (sym whole) ∙
-          total-append (take 28 b) (part b 28 4 ++ drop 32 b) 7 121 (length-take-le 28 b (omega arith)) ∙
-          ap (λ t. total (take 28 b) 7 + t) (total-append (part b 28 4) (drop 32 b) 1 120 (part-long b 28 4 (omega arith))) in
+      ap (λ x. total x 128) (sym whole) ∙
+      total-append (take 28 b) (part b 28 4 ++ drop 32 b) 7 121 (length-take-le 28 b (omega arith)) ∙
+      ap (λ t. total (take 28 b) 7 + t) (total-append (part b 28 4) (drop 32 b) 1 120 (part-long b 28 4 (omega arith))) in
       let word : total (part b 28 4) 1 ≡ word32 (part b 28 4) 0 = total-more (part b 28 4) 0 ∙ ap (λ t. t + word32 (part b 28 4) 0) (total-none (part b 28 4)) ∙ zero-add (word32 (part b 28 4) 0) in
       let small : word32 (part b 28 4) 0 < 4294967296 =
-          omega (arith, bytes-of-part b 28 4 fit 0 (omega arith), bytes-of-part b 28 4 fit 1 (omega arith), bytes-of-part b 28 4 fit 2 (omega arith), bytes-of-part b 28 4 fit 3 (omega arith)) in
+      omega (arith, bytes-of-part b 28 4 fit 0 (omega arith), bytes-of-part b 28 4 fit 1 (omega arith), bytes-of-part b 28 4 fit 2 (omega arith), bytes-of-part b 28 4 fit 3 (omega arith)) in
       omega (arith, sound .sum, parts, word, ap (λ x. total x 7) head-again, ap (λ x. total x 120) records-again)
 
   pub block-again : blockBytes set i n ≡ b
@@ -219,19 +222,19 @@ module _ (book : List ℕ) (fit : Bytes book) (passed : readFault book ≡ None)
     unfolding N
     its-slot r below = ⊎-elim
         (λ low. ap slot (its-task (15 * i + r) (in-set r low)) ∙
-          ap (λ x. recordBytes (parametersOf (draftOf x))) (there r below) ∙
-          record-again (part b (32 + 32 * r) 32) (part-long b (32 + 32 * r) 32 (omega arith)) (bytes-of-part b (32 + 32 * r) 32 block-fits)
-          (sym (ap recordError (there r below)) ∙ record-clean (15 * i + r) (in-set r low)))
+        ap (λ x. recordBytes (parametersOf (draftOf x))) (there r below) ∙
+        record-again (part b (32 + 32 * r) 32) (part-long b (32 + 32 * r) 32 (omega arith)) (bytes-of-part b (32 + 32 * r) 32 block-fits)
+        (sym (ap recordError (there r below)) ∙ record-clean (15 * i + r) (in-set r low)))
         (λ high. ap slot (nth-past (set .tasks) (15 * i + r) (omega (arith, counted, past-set r high below))) ∙
-          sym (zeros-are-zero (part b (32 + 32 * r) 32) (zero-there r high) ∙ ap (λ k. replicate k 0) (part-long b (32 + 32 * r) 32 (omega arith))))
+        sym (zeros-are-zero (part b (32 + 32 * r) 32) (zero-there r high) ∙ ap (λ k. replicate k 0) (part-long b (32 + 32 * r) 32 (omega arith))))
         (cases-lt r (byte b 3))
       where
-      zero-there : (r : ℕ) → byte b 3 ≤ r → allZero (part b (32 + 32 * r) 32) ≡ true
-      zero-there r high =
-          let at : 32 + 32 * byte b 3 + 32 * (r - byte b 3) ≡ 32 + 32 * r = omega arith in
-          ap (λ k. allZero (take 32 (drop k b))) (sym at) ∙
-          ap (λ x. allZero (take 32 x)) (sym (drop-drop (32 * (r - byte b 3)) (32 + 32 * byte b 3) b)) ∙
-          zero-part (drop (32 + 32 * byte b 3) b) (32 * (r - byte b 3)) 32 (sound .unused)
+        zero-there : (r : ℕ) → byte b 3 ≤ r → allZero (part b (32 + 32 * r) 32) ≡ true
+        zero-there r high =
+            let at : 32 + 32 * byte b 3 + 32 * (r - byte b 3) ≡ 32 + 32 * r = omega arith in
+            ap (λ k. allZero (take 32 (drop k b))) (sym at) ∙
+            ap (λ x. allZero (take 32 x)) (sym (drop-drop (32 * (r - byte b 3)) (32 + 32 * byte b 3) b)) ∙
+            zero-part (drop (32 + 32 * byte b 3) b) (32 * (r - byte b 3)) 32 (sound .unused)
 
     one-again : used set i ≡ byte b 3 → cond (eqb i 0) (set .p) 0 ≡ byte b 4 → cond (eqb i 0) (set .q) 0 ≡ byte b 5 → blockBytes set i n ≡ b
     one-again count p q = block-again b long block-fits i n sound set count p q its-slot
@@ -240,30 +243,30 @@ module _ (book : List ℕ) (fit : Bytes book) (passed : readFault book ≡ None)
   unfolding encoded inTurn N set
   written-again =
       elim (opened-is book opened) [
-        inl l ↦ (let few = lone-count book l in
-          let all = records-of-lone book (l .long) in
-          let one : blocksFor set ≡ 1 = ap (λ x. cond x 1 2) (le-leb (length (set .tasks)) 15 (omega (arith, counted))) in
-          ap (λ n. inTurn (λ i. blockBytes set i n) n) one ∙
-          one-again 0 1 book (lone-block book (l .long)) (l .long) (omega (arith, l .long)) (l .sound) few
-          (λ r low. omega (arith, all)) (λ r high within. omega (arith, all)) (omega (arith, counted, all)) refl refl)
-      | inr t ↦ (let first = first-count book t in
-          let second = second-count book t in
-          let all = records-of-two book (t .long) in
-          let two : blocksFor set ≡ 2 = ap (λ x. cond x 1 2) (lt-leb (length (set .tasks)) 15 (omega (arith, counted, all, first, second))) in
-          let b0 = byte-of-block book 0 3 (omega arith) in
-          let b1 = byte-of-block book 1 3 (omega arith) in
-          let ratio = and-parts (eqb (byte (blockOf book 1) 4) 0) (eqb (byte (blockOf book 1) 5) 0) (t .second .ratio) in
-          let long-0 : length (blockOf book 0) ≡ 512 = part-long book 0 512 (omega (arith, t .long)) in
-          let long-1 : length (blockOf book 1) ≡ 512 = part-long book 512 512 (omega (arith, t .long)) in
-          ap (λ n. inTurn (λ i. blockBytes set i n) n) two ∙
-          ap (λ x. x ++ blockBytes set 1 2)
-          (one-again 0 2 (blockOf book 0) refl long-0 (omega (arith, t .long)) (t .first) (omega (arith, b0, first))
+        | inl l ↦ (let few = lone-count book l in
+            let all = records-of-lone book (l .long) in
+            let one : blocksFor set ≡ 1 = ap (λ x. cond x 1 2) (le-leb (length (set .tasks)) 15 (omega (arith, counted))) in
+            ap (λ n. inTurn (λ i. blockBytes set i n) n) one ∙
+            one-again 0 1 book (lone-block book (l .long)) (l .long) (omega (arith, l .long)) (l .sound) few
+            (λ r low. omega (arith, all)) (λ r high within. omega (arith, all)) (omega (arith, counted, all)) refl refl)
+        | inr t ↦ (let first = first-count book t in
+            let second = second-count book t in
+            let all = records-of-two book (t .long) in
+            let two : blocksFor set ≡ 2 = ap (λ x. cond x 1 2) (lt-leb (length (set .tasks)) 15 (omega (arith, counted, all, first, second))) in
+            let b0 = byte-of-block book 0 3 (omega arith) in
+            let b1 = byte-of-block book 1 3 (omega arith) in
+            let ratio = and-parts (eqb (byte (blockOf book 1) 4) 0) (eqb (byte (blockOf book 1) 5) 0) (t .second .ratio) in
+            let long-0 : length (blockOf book 0) ≡ 512 = part-long book 0 512 (omega (arith, t .long)) in
+            let long-1 : length (blockOf book 1) ≡ 512 = part-long book 512 512 (omega (arith, t .long)) in
+            ap (λ n. inTurn (λ i. blockBytes set i n) n) two ∙
+            ap (λ x. x ++ blockBytes set 1 2)
+            (one-again 0 2 (blockOf book 0) refl long-0 (omega (arith, t .long)) (t .first) (omega (arith, b0, first))
             (λ r low. omega (arith, all, b0, first, second)) (λ r high within. absurd (omega (arith, b0, first)))
             (omega (arith, counted, all, b0, first, second)) (sym (byte-of-block book 0 4 (omega arith))) (sym (byte-of-block book 0 5 (omega arith)))) ∙
-          ap (λ x. blockOf book 0 ++ x)
-          (one-again 1 2 (blockOf book 1) refl long-1 (omega (arith, t .long)) (t .second) (omega (arith, b1, second))
+            ap (λ x. blockOf book 0 ++ x)
+            (one-again 1 2 (blockOf book 1) refl long-1 (omega (arith, t .long)) (t .second) (omega (arith, b1, second))
             (λ r low. omega (arith, all, b1, first)) (λ r high within. omega (arith, all, b1, first))
             (omega (arith, counted, all, b1, first)) (sym (eqb-true _ 0 (ratio .0))) (sym (eqb-true _ 0 (ratio .1)))) ∙
-          ap (λ x. take 512 book ++ x) (take-all 512 (drop 512 book) (simp length-drop (omega (arith, t .long)))) ∙
-          take-append-drop 512 book)
+            ap (λ x. take 512 book ++ x) (take-all 512 (drop 512 book) (simp length-drop (omega (arith, t .long)))) ∙
+            take-append-drop 512 book)
       ]

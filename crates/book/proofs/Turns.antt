@@ -40,14 +40,14 @@ module _ (f : ℕ → List ℕ) (w : ℕ) (each : (r : ℕ) → length (f r) ≡
   turn-part (suc n) r below =
       ap (λ x. part x (w * r) w) (turn-suc n) ∙
       elim (cases-lt r n) [
-        inl before ↦ (let room : w * suc r ≤ w * n = mul-le-mul-left w (omega arith) in
-          let long = turn-long f w each n in
-          ap (take w) (drop-append-le (w * r) (inTurn f n) (f n) (omega (arith, mul-suc w r))) ∙
-          take-append-le w (drop (w * r) (inTurn f n)) (f n) (simp length-drop (omega (arith, mul-suc w r))) ∙
-          turn-part n r before)
-      | inr last ↦ (let same : r ≡ n = omega arith in
-          let long : length (inTurn f n) ≡ w * r = turn-long f w each n ∙ ap (λ k. w * k) (sym same) in
-          ap (take w) (drop-at (inTurn f n) (f n) (w * r) long) ∙ take-all w (f n) (omega (arith, each n)) ∙ ap f (sym same))
+        | inl before ↦ (let room : w * suc r ≤ w * n = mul-le-mul-left w (omega arith) in
+            let long = turn-long f w each n in
+            ap (take w) (drop-append-le (w * r) (inTurn f n) (f n) (omega (arith, mul-suc w r))) ∙
+            take-append-le w (drop (w * r) (inTurn f n)) (f n) (simp length-drop (omega (arith, mul-suc w r))) ∙
+            turn-part n r before)
+        | inr last ↦ (let same : r ≡ n = omega arith in
+            let long : length (inTurn f n) ≡ w * r = turn-long f w each n ∙ ap (λ k. w * k) (sym same) in
+            ap (take w) (drop-at (inTurn f n) (f n) (w * r) long) ∙ take-all w (f n) (omega (arith, each n)) ∙ ap f (sym same))
       ]
 
 -- the same strings in turn
@@ -64,11 +64,11 @@ parts-in-turn xs w zero = ap (λ k. take k xs) (sym (mul-zero w))
 parts-in-turn xs w (suc n) =
     ap (λ x. x ++ part xs (w * n) w) (parts-in-turn xs w n) ∙ joined (w * n) w xs ∙ ap (λ k. take k xs) (omega (arith, mul-suc w n))
   where
-  joined : (a b : ℕ) (ys : List ℕ) → take a ys ++ take b (drop a ys) ≡ take (a + b) ys
-  joined a b ys =
-      ap (λ x. x ++ take b (drop a ys)) (sym (take-take a (a + b) ys (omega arith))) ∙
-      ap (λ x. take a (take (a + b) ys) ++ x) (sym (drop-take a b ys)) ∙
-      take-append-drop a (take (a + b) ys)
+    joined : (a b : ℕ) (ys : List ℕ) → take a ys ++ take b (drop a ys) ≡ take (a + b) ys
+    joined a b ys =
+        ap (λ x. x ++ take b (drop a ys)) (sym (take-take a (a + b) ys (omega arith))) ∙
+        ap (λ x. take a (take (a + b) ys) ++ x) (sym (drop-take a b ys)) ∙
+        take-append-drop a (take (a + b) ys)
 
 pub zero-append : (xs ys : List ℕ) → allZero xs ≡ true → allZero ys ≡ true → allZero (xs ++ ys) ≡ true
 zero-append [] ys p q = q
@@ -85,16 +85,17 @@ zeros-are-zero (x ∷ xs) p =
 pub zero-part : (xs : List ℕ) (a n : ℕ) → allZero xs ≡ true → allZero (part xs a n) ≡ true
 zero-part xs a n p = zero-take n (drop a xs) (zero-drop a xs p)
   where
-  zero-take : (k : ℕ) (ys : List ℕ) → allZero ys ≡ true → allZero (take k ys) ≡ true
-  zero-take zero ys q = refl
-  zero-take (suc k) [] q = refl
-  zero-take (suc k) (y ∷ ys) q =
-      let parts = and-parts (eqb y 0) (allZero ys) q in
-      and-from (eqb y 0) (allZero (take k ys)) (parts .0) (zero-take k ys (parts .1))
-  zero-drop : (k : ℕ) (ys : List ℕ) → allZero ys ≡ true → allZero (drop k ys) ≡ true
-  zero-drop zero ys q = q
-  zero-drop (suc k) [] q = refl
-  zero-drop (suc k) (y ∷ ys) q = zero-drop k ys (and-parts (eqb y 0) (allZero ys) q .1)
+    zero-take : (k : ℕ) (ys : List ℕ) → allZero ys ≡ true → allZero (take k ys) ≡ true
+    zero-take zero ys q = refl
+    zero-take (suc k) [] q = refl
+    zero-take (suc k) (y ∷ ys) q =
+        let parts = and-parts (eqb y 0) (allZero ys) q in
+        and-from (eqb y 0) (allZero (take k ys)) (parts .0) (zero-take k ys (parts .1))
+
+    zero-drop : (k : ℕ) (ys : List ℕ) → allZero ys ≡ true → allZero (drop k ys) ≡ true
+    zero-drop zero ys q = q
+    zero-drop (suc k) [] q = refl
+    zero-drop (suc k) (y ∷ ys) q = zero-drop k ys (and-parts (eqb y 0) (allZero ys) q .1)
 
 -- after the first u of n strings of width w there are zeros, if the others are zero
 pub zero-after : (f : ℕ → List ℕ) (w : ℕ) (each : (r : ℕ) → length (f r) ≡ w) (u n : ℕ) → u ≤ n
@@ -103,12 +104,12 @@ zero-after f w each u zero most rest =
     ap allZero (drop-all (w * u) (inTurn f zero) (omega (arith, ap length (turn-none f))))
 zero-after f w each u (suc n) most rest =
     elim (cases-lt u (suc n)) [
-      inl below ↦ (let room : w * u ≤ w * n = mul-le-mul-left w (omega arith) in
-        let long = turn-long f w each n in
-        ap (λ x. allZero (drop (w * u) x)) (turn-suc f w each n) ∙
-        ap allZero (drop-append-le (w * u) (inTurn f n) (f n) (omega arith)) ∙
-        zero-append (drop (w * u) (inTurn f n)) (f n) (zero-after f w each u n (omega arith) (λ r low high. rest r low (omega arith))) (rest n (omega arith) (omega arith)))
-    | inr all ↦ (let room : w * suc n ≤ w * u = mul-le-mul-left w (omega arith) in
-        let long = turn-long f w each (suc n) in
-        ap allZero (drop-all (w * u) (inTurn f (suc n)) (omega arith)))
+      | inl below ↦ (let room : w * u ≤ w * n = mul-le-mul-left w (omega arith) in
+          let long = turn-long f w each n in
+          ap (λ x. allZero (drop (w * u) x)) (turn-suc f w each n) ∙
+          ap allZero (drop-append-le (w * u) (inTurn f n) (f n) (omega arith)) ∙
+          zero-append (drop (w * u) (inTurn f n)) (f n) (zero-after f w each u n (omega arith) (λ r low high. rest r low (omega arith))) (rest n (omega arith) (omega arith)))
+      | inr all ↦ (let room : w * suc n ≤ w * u = mul-le-mul-left w (omega arith) in
+          let long = turn-long f w each (suc n) in
+          ap allZero (drop-all (w * u) (inTurn f (suc n)) (omega arith)))
     ]

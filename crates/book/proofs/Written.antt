@@ -71,8 +71,8 @@ module _ (set : TaskSet) (i n : ℕ) where
   block-sum =
       let check : List ℕ = bytes32 (checkOf sum-to) in
       let whole : total (headOf set i n ++ (check ++ recordsOf set i)) 128 ≡ total (headOf set i n) 7 + (total check 1 + total (recordsOf set i) 120) =
-          total-append (headOf set i n) (check ++ recordsOf set i) 7 121 refl ∙
-          ap (λ t. total (headOf set i n) 7 + t) (total-append check (recordsOf set i) 1 120 refl) in
+      total-append (headOf set i n) (check ++ recordsOf set i) 7 121 refl ∙
+      ap (λ t. total (headOf set i n) 7 + t) (total-append check (recordsOf set i) 1 120 refl) in
       omega (arith, whole, word-back (checkOf sum-to) (omega arith))
 
   -- its records stand after 32 bytes
@@ -153,18 +153,18 @@ module _ (set : TaskSet) (o : Orderly set) where
   unfolding N
   opens =
       elim (cases-lt 15 N) [
-        inl many ↦ open-at-1024 book (long-of-two many) ∙
-          ap (λ b. orOther (blockFault b 0 2) (blockFault (blockOf book 1) 1 2)) (first-of-two many) ∙
-          ap (λ x. orOther x (blockFault (blockOf book 1) 1 2)) (sound-passes _ 0 2 (block-sound set 0 2 (eq-eqb _ 15 (omega arith)) (in-gear (set .p) (set .q) (o .geared)))) ∙
-          ap (λ b. blockFault b 1 2) (second-of-two many) ∙
-          sound-passes _ 1 2 (block-sound set 1 2 (second-count many) refl)
-      | inr few ↦ open-at-512 book (long-of-one few) ∙
-          ap (λ b. blockFault b 0 1) (one-block few) ∙
-          sound-passes _ 0 1 (block-sound set 0 1 (le-leb _ 15 (omega arith)) (in-gear (set .p) (set .q) (o .geared)))
+        | inl many ↦ open-at-1024 book (long-of-two many) ∙
+            ap (λ b. orOther (blockFault b 0 2) (blockFault (blockOf book 1) 1 2)) (first-of-two many) ∙
+            ap (λ x. orOther x (blockFault (blockOf book 1) 1 2)) (sound-passes _ 0 2 (block-sound set 0 2 (eq-eqb _ 15 (omega arith)) (in-gear (set .p) (set .q) (o .geared)))) ∙
+            ap (λ b. blockFault b 1 2) (second-of-two many) ∙
+            sound-passes _ 1 2 (block-sound set 1 2 (second-count many) refl)
+        | inr few ↦ open-at-512 book (long-of-one few) ∙
+            ap (λ b. blockFault b 0 1) (one-block few) ∙
+            sound-passes _ 0 1 (block-sound set 0 1 (le-leb _ 15 (omega arith)) (in-gear (set .p) (set .q) (o .geared)))
       ]
     where
-    second-count : 15 < N → countFits (used set 1) 1 2 ≡ true
-    second-count many = and-from (leb 1 (used set 1)) _ (le-leb 1 _ (omega (arith, o .few))) (le-leb _ 15 (omega arith))
+      second-count : 15 < N → countFits (used set 1) 1 2 ≡ true
+      second-count many = and-from (leb 1 (used set 1)) _ (le-leb 1 _ (omega (arith, o .few))) (le-leb _ 15 (omega arith))
 
   -- byte 3 of a block is how many of its records are used
   used-byte : (i n : ℕ) → byte (blockBytes set i n) 3 ≡ used set i
@@ -175,10 +175,18 @@ module _ (set : TaskSet) (o : Orderly set) where
   unfolding N
   counts =
       elim (cases-lt 15 N) [
-        inl many ↦ records-of-two book (long-of-two many) ∙
-          omega (arith, o .few, byte-of-block book 0 3 (omega arith), ap (λ b. byte b 3) (first-of-two many), used-byte 0 2,
-            byte-of-block book 1 3 (omega arith), ap (λ b. byte b 3) (second-of-two many), used-byte 1 2)
-      | inr few ↦ records-of-lone book (long-of-one few) ∙ ap (λ b. byte b 3) (one-block few) ∙ used-byte 0 1 ∙ omega arith
+        | inl many ↦ records-of-two book (long-of-two many) ∙
+            omega (
+              arith,
+              o .few,
+              byte-of-block book 0 3 (omega arith),
+              ap (λ b. byte b 3) (first-of-two many),
+              used-byte 0 2,
+              byte-of-block book 1 3 (omega arith),
+              ap (λ b. byte b 3) (second-of-two many),
+              used-byte 1 2,
+            )
+        | inr few ↦ records-of-lone book (long-of-one few) ∙ ap (λ b. byte b 3) (one-block few) ∙ used-byte 0 1 ∙ omega arith
       ]
 
   -- record n, in its block
@@ -191,8 +199,8 @@ module _ (set : TaskSet) (o : Orderly set) where
       let here : 15 * (n / 15) + n % 15 ≡ n = omega arith in
       in-block n ∙
       elim (cases-lt 15 N) [
-        inl many ↦ elim (cases-lt n 15) [
-            inl low ↦ (let at : n / 15 ≡ 0 = omega arith in
+        | inl many ↦ elim (cases-lt n 15) [
+          | inl low ↦ (let at : n / 15 ≡ 0 = omega arith in
               ap (λ i. part (blockOf book i) (32 + 32 * (n % 15)) 32) at ∙
               ap (λ b. part b (32 + 32 * (n % 15)) 32) (first-of-two many) ∙
               block-record set 0 2 (n % 15) (omega arith) ∙
@@ -202,12 +210,12 @@ module _ (set : TaskSet) (o : Orderly set) where
               ap (λ b. part b (32 + 32 * (n % 15)) 32) (second-of-two many) ∙
               block-record set 1 2 (n % 15) (omega arith) ∙
               ap (λ k. slot (nth (set .tasks) k)) (omega arith))
-          ]
-      | inr few ↦ (let at : n / 15 ≡ 0 = omega arith in
-          ap (λ i. part (blockOf book i) (32 + 32 * (n % 15)) 32) at ∙
-          ap (λ b. part b (32 + 32 * (n % 15)) 32) (lone-block book (long-of-one few) ∙ one-block few) ∙
-          block-record set 0 1 (n % 15) (omega arith) ∙
-          ap (λ k. slot (nth (set .tasks) k)) (omega arith))
+        ]
+        | inr few ↦ (let at : n / 15 ≡ 0 = omega arith in
+            ap (λ i. part (blockOf book i) (32 + 32 * (n % 15)) 32) at ∙
+            ap (λ b. part b (32 + 32 * (n % 15)) 32) (lone-block book (long-of-one few) ∙ one-block few) ∙
+            block-record set 0 1 (n % 15) (omega arith) ∙
+            ap (λ k. slot (nth (set .tasks) k)) (omega arith))
       ]
 
   module _ (n : ℕ) (t : Parameters) (below : n < N) (here : nth (set .tasks) n ≡ Some t) where
@@ -234,14 +242,14 @@ module _ (set : TaskSet) (o : Orderly set) where
   tasks-back =
       same-lists _ _ (length-map-counting (taskAt book) 0 N)
       (λ k d below. getD-map-counting (taskAt book) 0 N k k d (omega (arith, length-map-counting (taskAt book) 0 N)) (omega arith) ∙
-        task-of k (getD (set .tasks) k d) (omega (arith, length-map-counting (taskAt book) 0 N)) (nth-getD (set .tasks) k d (omega (arith, length-map-counting (taskAt book) 0 N))))
+      task-of k (getD (set .tasks) k d) (omega (arith, length-map-counting (taskAt book) 0 N)) (nth-getD (set .tasks) k d (omega (arith, length-map-counting (taskAt book) 0 N))))
 
   byte-of-first : (at : ℕ) → at < 512 → byte book at ≡ byte (blockBytes set 0 (blocksFor set)) at
   unfolding N
   byte-of-first at inside =
       elim (cases-lt 15 N) [
-        inl many ↦ ap (byte book) (sym (zero-add at)) ∙ sym (byte-of-block book 0 at inside) ∙ ap (λ b. byte b at) (first-of-two many) ∙ ap (λ n. byte (blockBytes set 0 n) at) (sym (ap (λ b. cond b 1 2) (lt-leb N 15 many)))
-      | inr few ↦ ap (λ b. byte b at) (one-block few) ∙ ap (λ n. byte (blockBytes set 0 n) at) (sym (ap (λ b. cond b 1 2) (le-leb N 15 few)))
+        | inl many ↦ ap (byte book) (sym (zero-add at)) ∙ sym (byte-of-block book 0 at inside) ∙ ap (λ b. byte b at) (first-of-two many) ∙ ap (λ n. byte (blockBytes set 0 n) at) (sym (ap (λ b. cond b 1 2) (lt-leb N 15 many)))
+        | inr few ↦ ap (λ b. byte b at) (one-block few) ∙ ap (λ n. byte (blockBytes set 0 n) at) (sym (ap (λ b. cond b 1 2) (le-leb N 15 few)))
       ]
 
   ratio-p : byte (blockBytes set 0 (blocksFor set)) 4 ≡ set .p
@@ -286,5 +294,5 @@ orderly plan = record {
 pub buffer-reads-back : (plan : Plan) (B : List ℕ) (n : ℕ) → n ≡ 512 * blocksFor (taskSet plan) → ReadsAs (take n (over B 0 (encoded (taskSet plan)))) (taskSet plan)
 buffer-reads-back plan B n size =
     let front : take n (over B 0 (encoded (taskSet plan))) ≡ encoded (taskSet plan) =
-        take-at (encoded (taskSet plan)) (drop (0 + length (encoded (taskSet plan))) B) n (book-long (taskSet plan) ∙ sym size) in
+    take-at (encoded (taskSet plan)) (drop (0 + length (encoded (taskSet plan))) B) n (book-long (taskSet plan) ∙ sym size) in
     subst (λ b. ReadsAs b (taskSet plan)) (sym front) (reads-back (taskSet plan) (orderly plan))
