@@ -10,7 +10,7 @@ use Rattle.std.specs.Options.{mapped, orOther}
 use Rattle.std.specs.declared.option.Option.the-variants.{Some, None}
 use Rattle.std.specs.declared.result.Result.the-variants.{Ok, Err}
 use Rattle.plan.proofs.Answered.{fault-of-err, fault-of-ok, value-of-ok}
-use Rattle.plan.specs.Checks.{outOfGear, geared}
+use Rattle.plan.specs.Checks.{out-of-gear, geared}
 use Rattle.plan.specs.Refusals.{answer}
 use Rattle.plan.specs.TaskSet.{TaskSet}
 use Rattle.plan.specs.declared.fault.RecordFault.{RecordFault}
@@ -18,46 +18,46 @@ use Rattle.book.proofs.Sound.{opened-is}
 use Rattle.book.proofs.Walked.{byte-of-block}
 use Rattle.book.specs.Bytes.{byte}
 use Rattle.book.specs.Cursors.{Walk, begun}
-use Rattle.book.specs.Reading.{blockOf, decoded, firstFault, holding, openFault, readFault, records}
-use Rattle.book.specs.Refusals.{inBook}
+use Rattle.book.specs.Reading.{block-of, decoded, first-fault, holding, open-fault, read-fault, records}
+use Rattle.book.specs.Refusals.{in-book}
 use Rattle.book.specs.declared.fault.BookFault.{BookFault}
 
 module _ (book : List ℕ) where
-  pub refused-at-blocks : {f : BookFault} → openFault book ≡ Some f → readFault book ≡ Some f
-  refused-at-blocks e = ap (λ o. orOther o (mapped inBook (firstFault book (records book)))) e
+  pub refused-at-blocks : {f : BookFault} → open-fault book ≡ Some f → read-fault book ≡ Some f
+  refused-at-blocks e = ap (λ o. orOther o (mapped in-book (first-fault book (records book)))) e
 
-  pub then-records : openFault book ≡ None → readFault book ≡ mapped inBook (firstFault book (records book))
-  then-records e = ap (λ o. orOther o (mapped inBook (firstFault book (records book)))) e
+  pub then-records : open-fault book ≡ None → read-fault book ≡ mapped in-book (first-fault book (records book))
+  then-records e = ap (λ o. orOther o (mapped in-book (first-fault book (records book)))) e
 
-  pub refused-at-record : {f : RecordFault} → openFault book ≡ None → firstFault book (records book) ≡ Some f → readFault book ≡ Some (inBook f)
-  refused-at-record e f = then-records e ∙ ap (mapped inBook) f
+  pub refused-at-record : {f : RecordFault} → open-fault book ≡ None → first-fault book (records book) ≡ Some f → read-fault book ≡ Some (in-book f)
+  refused-at-record e f = then-records e ∙ ap (mapped in-book) f
 
-  pub accepted : openFault book ≡ None → firstFault book (records book) ≡ None → readFault book ≡ None
-  accepted e f = then-records e ∙ ap (mapped inBook) f
+  pub accepted : open-fault book ≡ None → first-fault book (records book) ≡ None → read-fault book ≡ None
+  accepted e f = then-records e ∙ ap (mapped in-book) f
 
   -- an opened book has a ratio
-  pub opened-in-gear : openFault book ≡ None → outOfGear (byte book 4) (byte book 5) ≡ false
+  pub opened-in-gear : open-fault book ≡ None → out-of-gear (byte book 4) (byte book 5) ≡ false
   opened-in-gear none =
       elim (opened-is book none) [
         | inl b ↦ not-true _ (b .sound .ratio)
-        | inr b ↦ sym (ap (λ p. outOfGear p (byte book 5)) (byte-of-block book 0 4 (omega arith))) ∙
-            sym (ap (λ q. outOfGear (byte (blockOf book 0) 4) q) (byte-of-block book 0 5 (omega arith))) ∙
+        | inr b ↦ sym (ap (λ p. out-of-gear p (byte book 5)) (byte-of-block book 0 4 (omega arith))) ∙
+            sym (ap (λ q. out-of-gear (byte (block-of book 0) 4) q) (byte-of-block book 0 5 (omega arith))) ∙
             not-true _ (b .first .ratio)
       ]
 
-  pub opened-geared : openFault book ≡ None → geared (byte book 4) (byte book 5) ≡ Some (byte book 4, byte book 5)
+  pub opened-geared : open-fault book ≡ None → geared (byte book 4) (byte book 5) ≡ Some (byte book 4, byte book 5)
   opened-geared none = ap (λ b. cond b None (Some (byte book 4, byte book 5))) (opened-in-gear none)
 
 -- A cursor was opened over the book.
-module _ (book : List ℕ) (w : Walk) (opened : Ok w ≡ answer (openFault book) (begun book)) where
-  pub passed-blocks : openFault book ≡ None
-  passed-blocks = fault-of-ok (openFault book) (begun book) w opened
+module _ (book : List ℕ) (w : Walk) (opened : Ok w ≡ answer (open-fault book) (begun book)) where
+  pub passed-blocks : open-fault book ≡ None
+  passed-blocks = fault-of-ok (open-fault book) (begun book) w opened
 
   started : w ≡ begun book
-  started = value-of-ok (openFault book) (begun book) w opened
+  started = value-of-ok (open-fault book) (begun book) w opened
 
-  pub its-book-passed : openFault (w .book) ≡ None
-  its-book-passed = ap (λ x. openFault (x .book)) started ∙ passed-blocks
+  pub its-book-passed : open-fault (w .book) ≡ None
+  its-book-passed = ap (λ x. open-fault (x .book)) started ∙ passed-blocks
 
   pub it-begins : w ≡ begun (w .book)
   it-begins = started ∙ ap (λ x. begun (x .book)) (sym started)
@@ -68,15 +68,15 @@ module _ (book : List ℕ) (w : Walk) (opened : Ok w ≡ answer (openFault book)
       let z : _≡_ {A = ℕ} 0 1 = cc in
       omega arith
 
-  first-there : firstFault (w .book) (records (w .book)) ≡ firstFault book (records book)
-  first-there = ap (λ x. firstFault (x .book) (records (x .book))) started
+  first-there : first-fault (w .book) (records (w .book)) ≡ first-fault book (records book)
+  first-there = ap (λ x. first-fault (x .book) (records (x .book))) started
 
-  pub refused-by-record : (set : TaskSet) (f : RecordFault) → Err f ≡ answer (firstFault (w .book) (records (w .book))) set → readFault book ≡ Some (inBook f)
+  pub refused-by-record : (set : TaskSet) (f : RecordFault) → Err f ≡ answer (first-fault (w .book) (records (w .book))) set → read-fault book ≡ Some (in-book f)
   refused-by-record set f e = refused-at-record book passed-blocks (sym first-there ∙ fault-of-err _ set f e)
 
   module _ (ratio : ℕ × ℕ) (set : TaskSet) (geared-so : Some ratio ≡ geared (byte book 4) (byte book 5))
-      (all : Ok set ≡ answer (firstFault (w .book) (records (w .book))) (holding (w .book) (ratio .0) (ratio .1))) where
-    pub passed-all : readFault book ≡ None
+      (all : Ok set ≡ answer (first-fault (w .book) (records (w .book))) (holding (w .book) (ratio .0) (ratio .1))) where
+    pub passed-all : read-fault book ≡ None
     passed-all = accepted book passed-blocks (sym first-there ∙ fault-of-ok _ (holding (w .book) (ratio .0) (ratio .1)) set all)
 
     pub holds-it : set ≡ decoded book

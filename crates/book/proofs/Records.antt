@@ -11,23 +11,23 @@ use Rattle.std.specs.Options.{orOther}
 use Rattle.std.specs.declared.option.Option.{Option}
 use Rattle.std.specs.declared.option.Option.the-variants.{None}
 use Rattle.plan.specs.Bounds.{Timed, Constrained}
-use Rattle.plan.specs.Checks.{firstError, parametersOf, refuseIf, speedOf}
+use Rattle.plan.specs.Checks.{first-error, parameters-of, refuse-if, speed-of}
 use Rattle.plan.specs.TaskSet.{Parameters, paced}
 use Rattle.plan.specs.declared.draft.Draft.{Draft}
 use Rattle.plan.specs.declared.fault.RecordError.the-variants.{Period, Deadline, Work, Constraint, SpeedOrRest}
 use Rattle.plan.specs.declared.task.Speed.{Speed}
 use Rattle.plan.specs.declared.task.Speed.the-variants.{High, Low}
 use Rattle.book.proofs.Sound.{both-pass}
-use Rattle.book.specs.Bytes.{allZero, byte}
-use Rattle.book.specs.Reading.{draftOf, recordError}
-use Rattle.book.specs.Writing.{recordBytes}
+use Rattle.book.specs.Bytes.{all-zero, byte}
+use Rattle.book.specs.Reading.{draft-of, record-error}
+use Rattle.book.specs.Writing.{record-bytes}
 
 -- a task's parameters keep its bounds
 pub record Good (t : Parameters) : Type 0 where
   pub timed : Timed (t .period) (t .deadline) (t .work)
   pub constrained : Constrained (t .m) (t .k)
 
-speed-back : (s : Speed) → speedOf (paced s 0 1) ≡ s
+speed-back : (s : Speed) → speed-of (paced s 0 1) ≡ s
 speed-back High = refl
 speed-back Low = refl
 
@@ -42,8 +42,8 @@ two-bytes n fits = omega arith
 drafted : Parameters → Draft
 drafted t = record { period = t .period; deadline = t .deadline; work = t .work; m = t .m; k = t .k; speed = paced (t .speed) 0 1 }
 
-draft-back : (t : Parameters) → Good t → draftOf (recordBytes t) ≡ drafted t
-unfolding recordBytes drafted
+draft-back : (t : Parameters) → Good t → draft-of (record-bytes t) ≡ drafted t
+unfolding record-bytes drafted
 draft-back t good = λ i. record {
   period = two-bytes (t .period) (omega (arith, good .timed)) i;
   deadline = two-bytes (t .deadline) (omega (arith, good .timed)) i;
@@ -54,14 +54,14 @@ draft-back t good = λ i. record {
 }
 
 module _ {E : Type 0} where
-  goes-on : {b : Bool} {rest : Option E} (e : E) → b ≡ false → rest ≡ None → refuseIf b e rest ≡ None
-  goes-on {b} {rest} e p q = ap (λ x. refuseIf x e rest) p ∙ q
+  goes-on : {b : Bool} {rest : Option E} (e : E) → b ≡ false → rest ≡ None → refuse-if b e rest ≡ None
+  goes-on {b} {rest} e p q = ap (λ x. refuse-if x e rest) p ∙ q
 
-  went-on : (b : Bool) (e : E) (rest : Option E) → refuseIf b e rest ≡ None → (b ≡ false) × (rest ≡ None)
+  went-on : (b : Bool) (e : E) (rest : Option E) → refuse-if b e rest ≡ None → (b ≡ false) × (rest ≡ None)
   went-on true e rest p = let z : _≡_ {A = ℕ} 0 1 = cc in absurd (omega arith)
   went-on false e rest p = (refl, p)
 
-in-bounds : (d : Draft) → Timed (d .period) (d .deadline) (d .work) → Constrained (d .m) (d .k) → d .speed ≤ 1 → firstError d ≡ None
+in-bounds : (d : Draft) → Timed (d .period) (d .deadline) (d .work) → Constrained (d .m) (d .k) → d .speed ≤ 1 → first-error d ≡ None
 in-bounds d t k s =
     goes-on Period (ne-eqb _ 0 (λ e. omega arith))
     (goes-on Deadline (or-from (eqb (d .deadline) 0) _ (ne-eqb _ 0 (λ e. omega arith)) (le-ltb _ _ (omega arith)))
@@ -69,30 +69,30 @@ in-bounds d t k s =
     (goes-on Constraint (or-from (eqb (d .m) 0) _ (ne-eqb _ 0 (λ e. omega arith)) (or-from (ltb (d .k) (d .m)) _ (le-ltb _ _ (omega arith)) (le-ltb _ _ (omega arith))))
     (goes-on SpeedOrRest (le-ltb 1 (d .speed) s) refl))))
 
-pub task-back : (t : Parameters) → Good t → parametersOf (draftOf (recordBytes t)) ≡ t
+pub task-back : (t : Parameters) → Good t → parameters-of (draft-of (record-bytes t)) ≡ t
 unfolding drafted
 task-back t good =
-    ap parametersOf (draft-back t good) ∙
+    ap parameters-of (draft-back t good) ∙
     ap (λ (s : Speed). record { period = t .period; deadline = t .deadline; work = t .work; m = t .m; k = t .k; speed = s }) (speed-back (t .speed))
 
-pub record-passes : (t : Parameters) → Good t → recordError (recordBytes t) ≡ None
-unfolding recordBytes drafted
+pub record-passes : (t : Parameters) → Good t → record-error (record-bytes t) ≡ None
+unfolding record-bytes drafted
 record-passes t good =
-    ap (λ d. orOther (firstError d) None) (draft-back t good) ∙
+    ap (λ d. orOther (first-error d) None) (draft-back t good) ∙
     ap (λ o. orOther o None) (in-bounds (drafted t) (good .timed) (good .constrained) (speed-low (t .speed)))
 
 -- What a record that passes its checks tells.
 
-module _ (xs : List ℕ) (passed : recordError xs ≡ None) where
-  parts : (firstError (draftOf xs) ≡ None) × (refuseIf (not (allZero (drop 9 xs))) SpeedOrRest None ≡ None)
-  parts = both-pass (firstError (draftOf xs)) (refuseIf (not (allZero (drop 9 xs))) SpeedOrRest None) passed
+module _ (xs : List ℕ) (passed : record-error xs ≡ None) where
+  parts : (first-error (draft-of xs) ≡ None) × (refuse-if (not (all-zero (drop 9 xs))) SpeedOrRest None ≡ None)
+  parts = both-pass (first-error (draft-of xs)) (refuse-if (not (all-zero (drop 9 xs))) SpeedOrRest None) passed
 
-  pub rest-passed : allZero (drop 9 xs) ≡ true
-  rest-passed = not-false (allZero (drop 9 xs)) (went-on (not (allZero (drop 9 xs))) SpeedOrRest None (parts .1) .0)
+  pub rest-passed : all-zero (drop 9 xs) ≡ true
+  rest-passed = not-false (all-zero (drop 9 xs)) (went-on (not (all-zero (drop 9 xs))) SpeedOrRest None (parts .1) .0)
 
   pub speed-passed : byte xs 8 ≤ 1
   speed-passed =
-      let draft : Draft = draftOf xs in
+      let draft : Draft = draft-of xs in
       let a = went-on (eqb (draft .period) 0) Period _ (parts .0) in
       let b = went-on (eqb (draft .deadline) 0 || ltb (draft .period) (draft .deadline)) Deadline _ (a .1) in
       let c = went-on (eqb (draft .work) 0 || ltb (draft .deadline) (draft .work)) Work _ (b .1) in

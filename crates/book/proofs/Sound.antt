@@ -12,10 +12,10 @@ use Rattle.std.proofs.shelf.Tests.{and-parts, and-from, eqb-true, eq-eqb, ne-eq
 use Rattle.std.specs.Options.{orOther}
 use Rattle.std.specs.declared.option.Option.{Option}
 use Rattle.std.specs.declared.option.Option.the-variants.{Some, None}
-use Rattle.plan.specs.Checks.{refuseIf}
+use Rattle.plan.specs.Checks.{refuse-if}
 use Rattle.book.proofs.Opened.{open-at-512, open-at-1024}
-use Rattle.book.specs.Bytes.{byte, part, total, allZero}
-use Rattle.book.specs.Reading.{sumFits, headFits, countFits, ratioFits, blockFault, blockOf, openFault}
+use Rattle.book.specs.Bytes.{byte, part, total, all-zero}
+use Rattle.book.specs.Reading.{sum-fits, head-fits, count-fits, ratio-fits, block-fault, block-of, open-fault}
 use Rattle.book.specs.declared.fault.BookFault.the-variants.{Length, Sum, Head, Count, Ratio, Reserved}
 
 pub record Sound (block : List ℕ) (at blocks : ℕ) : Type 0 where
@@ -23,33 +23,33 @@ pub record Sound (block : List ℕ) (at blocks : ℕ) : Type 0 where
   pub kind : byte block 0 ≡ 1
   pub place : byte block 1 ≡ at
   pub among : byte block 2 ≡ blocks
-  pub count : countFits (byte block 3) at blocks ≡ true
-  pub ratio : ratioFits (byte block 4) (byte block 5) at ≡ true
-  pub reserved : allZero (part block 6 22) ≡ true
-  pub unused : allZero (drop (32 + 32 * byte block 3) block) ≡ true
+  pub count : count-fits (byte block 3) at blocks ≡ true
+  pub ratio : ratio-fits (byte block 4) (byte block 5) at ≡ true
+  pub reserved : all-zero (part block 6 22) ≡ true
+  pub unused : all-zero (drop (32 + 32 * byte block 3) block) ≡ true
 
 module _ {E : Type 0} where
-  passed : (b : Bool) (e : E) (rest : Option E) → refuseIf (not b) e rest ≡ None → (b ≡ true) × (rest ≡ None)
+  passed : (b : Bool) (e : E) (rest : Option E) → refuse-if (not b) e rest ≡ None → (b ≡ true) × (rest ≡ None)
   passed true e rest p = (refl, p)
   passed false e rest p = let z : _≡_ {A = ℕ} 0 1 = cc in absurd (omega arith)
 
-  passes : {b : Bool} {rest : Option E} (e : E) → b ≡ true → rest ≡ None → refuseIf (not b) e rest ≡ None
-  passes {b} {rest} e p q = ap (λ x. refuseIf (not x) e rest) p ∙ q
+  passes : {b : Bool} {rest : Option E} (e : E) → b ≡ true → rest ≡ None → refuse-if (not b) e rest ≡ None
+  passes {b} {rest} e p q = ap (λ x. refuse-if (not x) e rest) p ∙ q
 
   pub both-pass : (o p : Option E) → orOther o p ≡ None → (o ≡ None) × (p ≡ None)
   both-pass None p e = (refl, e)
   both-pass (Some x) p e = let z : _≡_ {A = ℕ} 0 1 = cc in absurd (omega arith)
 
 module _ (block : List ℕ) (at blocks : ℕ) where
-  pub passed-is-sound : blockFault block at blocks ≡ None → Sound block at blocks
-  unfolding blockFault
+  pub passed-is-sound : block-fault block at blocks ≡ None → Sound block at blocks
+  unfolding block-fault
   passed-is-sound none =
-      let a = passed (sumFits block) (Sum at) _ none in
-      let b = passed (headFits block at blocks) (Head at) _ (a .1) in
-      let c = passed (countFits (byte block 3) at blocks) (Count at) _ (b .1) in
-      let d = passed (ratioFits (byte block 4) (byte block 5) at) (Ratio at) _ (c .1) in
-      let e = passed (allZero (part block 6 22)) (Reserved at) _ (d .1) in
-      let f = passed (allZero (drop (32 + 32 * byte block 3) block)) (Reserved at) None (e .1) in
+      let a = passed (sum-fits block) (Sum at) _ none in
+      let b = passed (head-fits block at blocks) (Head at) _ (a .1) in
+      let c = passed (count-fits (byte block 3) at blocks) (Count at) _ (b .1) in
+      let d = passed (ratio-fits (byte block 4) (byte block 5) at) (Ratio at) _ (c .1) in
+      let e = passed (all-zero (part block 6 22)) (Reserved at) _ (d .1) in
+      let f = passed (all-zero (drop (32 + 32 * byte block 3) block)) (Reserved at) None (e .1) in
       let h = and-parts (eqb (byte block 0) 1) _ (b .0) in
       let i = and-parts (eqb (byte block 1) at) (eqb (byte block 2) blocks) (h .1) in
       record {
@@ -63,10 +63,10 @@ module _ (block : List ℕ) (at blocks : ℕ) where
         unused = f .0;
       }
 
-  pub sound-passes : Sound block at blocks → blockFault block at blocks ≡ None
-  unfolding blockFault
+  pub sound-passes : Sound block at blocks → block-fault block at blocks ≡ None
+  unfolding block-fault
   sound-passes s =
-      let head : headFits block at blocks ≡ true =
+      let head : head-fits block at blocks ≡ true =
       and-from (eqb (byte block 0) 1) _ (eq-eqb _ 1 (s .kind)) (and-from (eqb (byte block 1) at) _ (eq-eqb _ at (s .place)) (eq-eqb _ blocks (s .among))) in
       passes (Sum at) (eq-eqb (total block 128 % 4294967296) 0 (s .sum))
       (passes (Head at) head
@@ -82,19 +82,19 @@ pub record Lone (book : List ℕ) : Type 0 where
 
 pub record Two (book : List ℕ) : Type 0 where
   pub long : length book ≡ 1024
-  pub first : Sound (blockOf book 0) 0 2
-  pub second : Sound (blockOf book 1) 1 2
+  pub first : Sound (block-of book 0) 0 2
+  pub second : Sound (block-of book 1) 1 2
 
-pub opened-is : (book : List ℕ) → openFault book ≡ None → Lone book ⊎ Two book
+pub opened-is : (book : List ℕ) → open-fault book ≡ None → Lone book ⊎ Two book
 opened-is book none =
     elim (cases-eq (length book) 512) [
       | inl e ↦ inl (record { long = e; sound = passed-is-sound book 0 1 (sym (open-at-512 book e) ∙ none) })
       | inr n ↦ elim (cases-eq (length book) 1024) [
         | inl e ↦ (let both = both-pass _ _ (sym (open-at-1024 book e) ∙ none) in
             inr (record { long = e; first = passed-is-sound _ 0 2 (both .0); second = passed-is-sound _ 1 2 (both .1) }))
-        | inr m ↦ (let other : openFault book ≡ Some Length =
-            ap (λ b. cond b (blockFault (blockOf book 0) 0 1) (cond (eqb (length book) 1024) (orOther (blockFault (blockOf book 0) 0 2) (blockFault (blockOf book 1) 1 2)) (Some Length))) (ne-eqb _ 512 n) ∙
-            ap (λ b. cond b (orOther (blockFault (blockOf book 0) 0 2) (blockFault (blockOf book 1) 1 2)) (Some Length)) (ne-eqb _ 1024 m) in
+        | inr m ↦ (let other : open-fault book ≡ Some Length =
+            ap (λ b. cond b (block-fault (block-of book 0) 0 1) (cond (eqb (length book) 1024) (orOther (block-fault (block-of book 0) 0 2) (block-fault (block-of book 1) 1 2)) (Some Length))) (ne-eqb _ 512 n) ∙
+            ap (λ b. cond b (orOther (block-fault (block-of book 0) 0 2) (block-fault (block-of book 1) 1 2)) (Some Length)) (ne-eqb _ 1024 m) in
             let z : _≡_ {A = ℕ} 0 1 = cc in absurd (omega arith))
       ]
     ]

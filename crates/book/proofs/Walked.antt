@@ -14,20 +14,20 @@ use Rattle.std.proofs.shelf.Ways.{tells}
 use Rattle.std.specs.declared.option.Option.the-variants.{Some, None}
 use Rattle.book.proofs.Sound.{Lone, Two, opened-is}
 use Rattle.book.specs.Bytes.{byte}
-use Rattle.book.specs.Cursors.{Walk, begun, has, handedOut, recordSeen, stepped, steps, InOrder}
-use Rattle.book.specs.Reading.{blockOf, offset, openFault, records, recordAt}
+use Rattle.book.specs.Cursors.{Walk, begun, has, handed-out, record-seen, stepped, steps, In-order}
+use Rattle.book.specs.Reading.{block-of, offset, open-fault, records, record-at}
 
 pub has-it : (book : List ℕ) (n : ℕ) → n < 30 → 512 * (n / 15) + 512 ≤ length book → n % 15 < byte book (512 * (n / 15) + 3) → has book n ≡ true
 has-it book n few block counted =
     and-from (ltb n 30) _ (lt-ltb n 30 few) (and-from (leb (512 * (n / 15) + 512) (length book)) _ (le-leb _ _ block) (lt-ltb _ _ counted))
 
 -- the part of the book that a step cuts out
-pub part-is-record : (book : List ℕ) (n a : ℕ) → a ≡ offset n → take (a + 32 - a) (drop a book) ≡ recordAt book n
+pub part-is-record : (book : List ℕ) (n a : ℕ) → a ≡ offset n → take (a + 32 - a) (drop a book) ≡ record-at book n
 part-is-record book n a same =
     let size : a + 32 - a ≡ 32 = omega arith in
     ap (λ k. take k (drop a book)) size ∙ ap (λ b. take 32 (drop b book)) same
 
-pub byte-of-block : (book : List ℕ) (i at : ℕ) → at < 512 → byte (blockOf book i) at ≡ byte book (512 * i + at)
+pub byte-of-block : (book : List ℕ) (i at : ℕ) → at < 512 → byte (block-of book i) at ≡ byte book (512 * i + at)
 byte-of-block book i at inside = getD-take 512 (drop (512 * i) book) at 0 inside ∙ getD-drop (512 * i) book at 0
 
 pub records-of-lone : (book : List ℕ) → length book ≡ 512 → records book ≡ byte book 3
@@ -45,9 +45,9 @@ first-count book b = sym (byte-of-block book 0 3 (omega arith)) ∙ eqb-true _ 1
 
 pub second-count : (book : List ℕ) → Two book → (1 ≤ byte book 515) × (byte book 515 ≤ 15)
 second-count book b =
-    let parts = and-parts (leb 1 (byte (blockOf book 1) 3)) _ (b .second .count) in
+    let parts = and-parts (leb 1 (byte (block-of book 1) 3)) _ (b .second .count) in
     let same = byte-of-block book 1 3 (omega arith) in
-    (omega (arith, same, leb-true 1 (byte (blockOf book 1) 3) (parts .0)), omega (arith, same, leb-true (byte (blockOf book 1) 3) 15 (parts .1)))
+    (omega (arith, same, leb-true 1 (byte (block-of book 1) 3) (parts .0)), omega (arith, same, leb-true (byte (block-of book 1) 3) 15 (parts .1)))
 
 -- what the test of a step says
 has-parts : (book : List ℕ) (n : ℕ) → has book n ≡ true → (512 * (n / 15) + 512 ≤ length book) × (n % 15 < byte book (512 * (n / 15) + 3)) × (n < 30)
@@ -89,7 +89,7 @@ only-in-block book (inr b) n here =
           omega (arith, parts .1, byte-at book start, first-count book b, records-of-two book (b .long)))
     ]
 
-pub opened-has : (book : List ℕ) → openFault book ≡ None → (n : ℕ) → has book n ≡ ltb n (records book)
+pub opened-has : (book : List ℕ) → open-fault book ≡ None → (n : ℕ) → has book n ≡ ltb n (records book)
 opened-has book none n =
     let b = opened-is book none in
     elim (cases-lt n (records book)) [
@@ -100,7 +100,7 @@ opened-has book none n =
       ]
     ]
 
-module _ (book : List ℕ) (none : openFault book ≡ None) where
+module _ (book : List ℕ) (none : open-fault book ≡ None) where
   at-step : ℕ → Walk
   at-step n = record { book = book; next = min n (records book) }
 
@@ -112,15 +112,15 @@ module _ (book : List ℕ) (none : openFault book ≡ None) where
       ap (λ (k : ℕ). record { book = book; next = k })
       (ap (λ b. cond b (min n (records book) + 1) (min n (records book))) (opened-has book none (min n (records book))) ∙ grind (arith, tells))
 
-  pub in-order : InOrder book
+  pub in-order : In-order book
   unfolding at-step
   in-order n =
-      ap handedOut (walked n) ∙
-      ap (λ b. cond b (Some (recordSeen book (min n (records book)))) None) (opened-has book none (min n (records book))) ∙
+      ap handed-out (walked n) ∙
+      ap (λ b. cond b (Some (record-seen book (min n (records book)))) None) (opened-has book none (min n (records book))) ∙
       elim (cases-lt n (records book)) [
         | inl below ↦ (let same : min n (records book) ≡ n = omega arith in
-            ap (λ k. cond (ltb k (records book)) (Some (recordSeen book k)) None) same)
+            ap (λ k. cond (ltb k (records book)) (Some (record-seen book k)) None) same)
         | inr past ↦ (let same : min n (records book) ≡ records book = omega arith in
-            ap (λ b. cond b (Some (recordSeen book (min n (records book)))) None) (le-ltb _ _ (omega arith)) ∙
-            sym (ap (λ b. cond b (Some (recordSeen book n)) None) (le-ltb n (records book) past)))
+            ap (λ b. cond b (Some (record-seen book (min n (records book)))) None) (le-ltb _ _ (omega arith)) ∙
+            sym (ap (λ b. cond b (Some (record-seen book n)) None) (le-ltb n (records book) past)))
       ]

@@ -16,9 +16,9 @@ use Rattle.std.specs.Finite.{nth}
 use Rattle.std.specs.Options.{mapped, orOther}
 use Rattle.std.specs.declared.option.Option.the-variants.{Some, None}
 use Rattle.plan.specs.Bounds.{Geared}
-use Rattle.plan.specs.Checks.{faultAt, outOfGear, parametersOf}
+use Rattle.plan.specs.Checks.{fault-at, out-of-gear, parameters-of}
 use Rattle.plan.proofs.Listed.{tasks-are-count}
-use Rattle.plan.specs.TaskSet.{Parameters, TaskSet, parameters, taskSet}
+use Rattle.plan.specs.TaskSet.{Parameters, TaskSet, parameters, task-set}
 use Rattle.plan.specs.declared.fault.Place.the-variants as place
 use Rattle.plan.specs.declared.plan.Plan.{Plan}
 use Rattle.plan.specs.declared.task.Speed.the-variants.{High}
@@ -31,10 +31,10 @@ use Rattle.book.proofs.Sums.{total-append, total-more, total-none}
 use Rattle.book.proofs.Turns.{part-of-part, turn-part, zero-after}
 use Rattle.book.proofs.Walked.{byte-of-block, records-of-lone, records-of-two}
 use Rattle.book.proofs.Writings.{block-long, book-long, slot-long}
-use Rattle.book.specs.Bytes.{allZero, byte, bytes32, part, total, word32}
-use Rattle.book.specs.Reading.{blockFault, blockOf, countFits, draftOf, faultOf, firstFault, openFault, ratioFits, recordAt, recordFault, records, taskAt, tasksOf}
-use Rattle.book.specs.RoundTrip.{ReadsAs}
-use Rattle.book.specs.Writing.{blockBytes, blocksFor, checkOf, encoded, headOf, inTurn, over, recordBytes, recordsOf, slot, slotAt, used}
+use Rattle.book.specs.Bytes.{all-zero, byte, bytes32, part, total, word32}
+use Rattle.book.specs.Reading.{block-fault, block-of, count-fits, draft-of, fault-of, first-fault, open-fault, ratio-fits, record-at, record-fault, records, task-at, tasks-of}
+use Rattle.book.specs.RoundTrip.{Reads-as}
+use Rattle.book.specs.Writing.{block-bytes, blocks-for, check-of, encoded, head-of, in-turn, over, record-bytes, records-of, slot, slot-at, used}
 
 -- What every plan's task set keeps.
 pub record Orderly (set : TaskSet) : Type 0 where
@@ -42,7 +42,7 @@ pub record Orderly (set : TaskSet) : Type 0 where
   pub geared : Geared (set .p) (set .q)
   pub good : (i : ℕ) (t : Parameters) → nth (set .tasks) i ≡ Some t → Good t
 
-each-slot : (set : TaskSet) (i r : ℕ) → length (slotAt set i r) ≡ 32
+each-slot : (set : TaskSet) (i r : ℕ) → length (slot-at set i r) ≡ 32
 each-slot set i r = slot-long (nth (set .tasks) (15 * i + r))
 
 -- the digits of a word make the word: by quotients a, b, e, each 256 times smaller, and what is left of each
@@ -64,30 +64,30 @@ word-back c fits = total-more (bytes32 c) 0 ∙ ap (λ t. t + word32 (bytes32 c)
 
 module _ (set : TaskSet) (i n : ℕ) where
   sum-to : ℕ
-  sum-to = total (headOf set i n) 7 + total (recordsOf set i) 120
+  sum-to = total (head-of set i n) 7 + total (records-of set i) 120
 
-  block-sum : total (blockBytes set i n) 128 % 4294967296 ≡ 0
-  unfolding blockBytes sum-to
+  block-sum : total (block-bytes set i n) 128 % 4294967296 ≡ 0
+  unfolding block-bytes sum-to
   block-sum =
-      let check : List ℕ = bytes32 (checkOf sum-to) in
-      let whole : total (headOf set i n ++ (check ++ recordsOf set i)) 128 ≡ total (headOf set i n) 7 + (total check 1 + total (recordsOf set i) 120) =
-      total-append (headOf set i n) (check ++ recordsOf set i) 7 121 refl ∙
-      ap (λ t. total (headOf set i n) 7 + t) (total-append check (recordsOf set i) 1 120 refl) in
-      omega (arith, whole, word-back (checkOf sum-to) (omega arith))
+      let check : List ℕ = bytes32 (check-of sum-to) in
+      let whole : total (head-of set i n ++ (check ++ records-of set i)) 128 ≡ total (head-of set i n) 7 + (total check 1 + total (records-of set i) 120) =
+      total-append (head-of set i n) (check ++ records-of set i) 7 121 refl ∙
+      ap (λ t. total (head-of set i n) 7 + t) (total-append check (records-of set i) 1 120 refl) in
+      omega (arith, whole, word-back (check-of sum-to) (omega arith))
 
   -- its records stand after 32 bytes
-  block-tail : drop 32 (blockBytes set i n) ≡ recordsOf set i
-  unfolding blockBytes
+  block-tail : drop 32 (block-bytes set i n) ≡ records-of set i
+  unfolding block-bytes
   block-tail = refl
 
-  block-unused : allZero (drop (32 + 32 * used set i) (blockBytes set i n)) ≡ true
+  block-unused : all-zero (drop (32 + 32 * used set i) (block-bytes set i n)) ≡ true
   block-unused =
-      ap allZero (sym (drop-drop (32 * used set i) 32 (blockBytes set i n)) ∙ ap (drop (32 * used set i)) block-tail) ∙
-      zero-after (slotAt set i) 32 (each-slot set i) (used set i) 15 (omega arith)
-      (λ r low high. ap (λ o. allZero (slot o)) (nth-past (set .tasks) (15 * i + r) (omega arith)))
+      ap all-zero (sym (drop-drop (32 * used set i) 32 (block-bytes set i n)) ∙ ap (drop (32 * used set i)) block-tail) ∙
+      zero-after (slot-at set i) 32 (each-slot set i) (used set i) 15 (omega arith)
+      (λ r low high. ap (λ o. all-zero (slot o)) (nth-past (set .tasks) (15 * i + r) (omega arith)))
 
-  block-sound : countFits (used set i) i n ≡ true → ratioFits (cond (eqb i 0) (set .p) 0) (cond (eqb i 0) (set .q) 0) i ≡ true → Sound (blockBytes set i n) i n
-  unfolding blockBytes
+  block-sound : count-fits (used set i) i n ≡ true → ratio-fits (cond (eqb i 0) (set .p) 0) (cond (eqb i 0) (set .q) 0) i ≡ true → Sound (block-bytes set i n) i n
+  unfolding block-bytes
   block-sound count ratio = record {
     sum = block-sum;
     kind = refl;
@@ -99,14 +99,14 @@ module _ (set : TaskSet) (i n : ℕ) where
     unused = block-unused;
   }
 
-  pub block-record : (r : ℕ) → r < 15 → part (blockBytes set i n) (32 + 32 * r) 32 ≡ slotAt set i r
+  pub block-record : (r : ℕ) → r < 15 → part (block-bytes set i n) (32 + 32 * r) 32 ≡ slot-at set i r
   block-record r below =
-      ap (take 32) (sym (drop-drop (32 * r) 32 (blockBytes set i n)) ∙ ap (drop (32 * r)) block-tail) ∙
-      turn-part (slotAt set i) 32 (each-slot set i) 15 r below
+      ap (take 32) (sym (drop-drop (32 * r) 32 (block-bytes set i n)) ∙ ap (drop (32 * r)) block-tail) ∙
+      turn-part (slot-at set i) 32 (each-slot set i) 15 r below
 
-in-gear : (p q : ℕ) → Geared p q → ratioFits p q 0 ≡ true
+in-gear : (p q : ℕ) → Geared p q → ratio-fits p q 0 ≡ true
 in-gear p q g =
-    not-from-false (outOfGear p q) (or-from (eqb q 0) _ (ne-eqb q 0 (λ e. omega arith)) (or-from (ltb p q) _ (le-ltb p q (omega arith)) (le-ltb 16 p (omega arith))))
+    not-from-false (out-of-gear p q) (or-from (eqb q 0) _ (ne-eqb q 0 (λ e. omega arith)) (or-from (ltb p q) _ (le-ltb p q (omega arith)) (le-ltb 16 p (omega arith))))
 
 -- stands where a list of tasks has none
 spare : Parameters
@@ -121,17 +121,17 @@ module _ (set : TaskSet) (o : Orderly set) where
   pub book : List ℕ
   book = encoded set
 
-  one-block : N ≤ 15 → book ≡ blockBytes set 0 1
-  unfolding N book encoded inTurn
+  one-block : N ≤ 15 → book ≡ block-bytes set 0 1
+  unfolding N book encoded in-turn
   one-block few =
-      let one : blocksFor set ≡ 1 = ap (λ b. cond b 1 2) (le-leb N 15 few) in
-      ap (λ n. inTurn (λ i. blockBytes set i n) n) one
+      let one : blocks-for set ≡ 1 = ap (λ b. cond b 1 2) (le-leb N 15 few) in
+      ap (λ n. in-turn (λ i. block-bytes set i n) n) one
 
-  two-blocks : 15 < N → book ≡ blockBytes set 0 2 ++ blockBytes set 1 2
-  unfolding N book encoded inTurn
+  two-blocks : 15 < N → book ≡ block-bytes set 0 2 ++ block-bytes set 1 2
+  unfolding N book encoded in-turn
   two-blocks many =
-      let two : blocksFor set ≡ 2 = ap (λ b. cond b 1 2) (lt-leb N 15 many) in
-      ap (λ n. inTurn (λ i. blockBytes set i n) n) two
+      let two : blocks-for set ≡ 2 = ap (λ b. cond b 1 2) (lt-leb N 15 many) in
+      ap (λ n. in-turn (λ i. block-bytes set i n) n) two
 
   long-of-one : N ≤ 15 → length book ≡ 512
   long-of-one few = ap length (one-block few) ∙ block-long set 0 1
@@ -140,35 +140,35 @@ module _ (set : TaskSet) (o : Orderly set) where
   unfolding N book
   long-of-two many = book-long set ∙ ap (λ b. 512 * cond b 1 2) (lt-leb N 15 many)
 
-  first-of-two : 15 < N → blockOf book 0 ≡ blockBytes set 0 2
-  first-of-two many = ap (take 512) (two-blocks many) ∙ take-at (blockBytes set 0 2) (blockBytes set 1 2) 512 (block-long set 0 2)
+  first-of-two : 15 < N → block-of book 0 ≡ block-bytes set 0 2
+  first-of-two many = ap (take 512) (two-blocks many) ∙ take-at (block-bytes set 0 2) (block-bytes set 1 2) 512 (block-long set 0 2)
 
-  second-of-two : 15 < N → blockOf book 1 ≡ blockBytes set 1 2
+  second-of-two : 15 < N → block-of book 1 ≡ block-bytes set 1 2
   second-of-two many =
       ap (λ b. take 512 (drop 512 b)) (two-blocks many) ∙
-      ap (take 512) (drop-at (blockBytes set 0 2) (blockBytes set 1 2) 512 (block-long set 0 2)) ∙
-      take-all 512 (blockBytes set 1 2) (omega (arith, block-long set 1 2))
+      ap (take 512) (drop-at (block-bytes set 0 2) (block-bytes set 1 2) 512 (block-long set 0 2)) ∙
+      take-all 512 (block-bytes set 1 2) (omega (arith, block-long set 1 2))
 
-  opens : openFault book ≡ None
+  opens : open-fault book ≡ None
   unfolding N
   opens =
       elim (cases-lt 15 N) [
         | inl many ↦ open-at-1024 book (long-of-two many) ∙
-            ap (λ b. orOther (blockFault b 0 2) (blockFault (blockOf book 1) 1 2)) (first-of-two many) ∙
-            ap (λ x. orOther x (blockFault (blockOf book 1) 1 2)) (sound-passes _ 0 2 (block-sound set 0 2 (eq-eqb _ 15 (omega arith)) (in-gear (set .p) (set .q) (o .geared)))) ∙
-            ap (λ b. blockFault b 1 2) (second-of-two many) ∙
+            ap (λ b. orOther (block-fault b 0 2) (block-fault (block-of book 1) 1 2)) (first-of-two many) ∙
+            ap (λ x. orOther x (block-fault (block-of book 1) 1 2)) (sound-passes _ 0 2 (block-sound set 0 2 (eq-eqb _ 15 (omega arith)) (in-gear (set .p) (set .q) (o .geared)))) ∙
+            ap (λ b. block-fault b 1 2) (second-of-two many) ∙
             sound-passes _ 1 2 (block-sound set 1 2 (second-count many) refl)
         | inr few ↦ open-at-512 book (long-of-one few) ∙
-            ap (λ b. blockFault b 0 1) (one-block few) ∙
+            ap (λ b. block-fault b 0 1) (one-block few) ∙
             sound-passes _ 0 1 (block-sound set 0 1 (le-leb _ 15 (omega arith)) (in-gear (set .p) (set .q) (o .geared)))
       ]
     where
-      second-count : 15 < N → countFits (used set 1) 1 2 ≡ true
+      second-count : 15 < N → count-fits (used set 1) 1 2 ≡ true
       second-count many = and-from (leb 1 (used set 1)) _ (le-leb 1 _ (omega (arith, o .few))) (le-leb _ 15 (omega arith))
 
   -- byte 3 of a block is how many of its records are used
-  used-byte : (i n : ℕ) → byte (blockBytes set i n) 3 ≡ used set i
-  unfolding blockBytes
+  used-byte : (i n : ℕ) → byte (block-bytes set i n) 3 ≡ used set i
+  unfolding block-bytes
   used-byte i n = refl
 
   counts : records book ≡ N
@@ -190,10 +190,10 @@ module _ (set : TaskSet) (o : Orderly set) where
       ]
 
   -- record n, in its block
-  in-block : (n : ℕ) → recordAt book n ≡ part (blockOf book (n / 15)) (32 + 32 * (n % 15)) 32
+  in-block : (n : ℕ) → record-at book n ≡ part (block-of book (n / 15)) (32 + 32 * (n % 15)) 32
   in-block n = sym (part-of-part book (512 * (n / 15)) 512 (32 + 32 * (n % 15)) 32 (omega arith))
 
-  slot-of : (n : ℕ) → n < N → recordAt book n ≡ slot (nth (set .tasks) n)
+  slot-of : (n : ℕ) → n < N → record-at book n ≡ slot (nth (set .tasks) n)
   unfolding N
   slot-of n below =
       let here : 15 * (n / 15) + n % 15 ≡ n = omega arith in
@@ -201,71 +201,71 @@ module _ (set : TaskSet) (o : Orderly set) where
       elim (cases-lt 15 N) [
         | inl many ↦ elim (cases-lt n 15) [
           | inl low ↦ (let at : n / 15 ≡ 0 = omega arith in
-              ap (λ i. part (blockOf book i) (32 + 32 * (n % 15)) 32) at ∙
+              ap (λ i. part (block-of book i) (32 + 32 * (n % 15)) 32) at ∙
               ap (λ b. part b (32 + 32 * (n % 15)) 32) (first-of-two many) ∙
               block-record set 0 2 (n % 15) (omega arith) ∙
               ap (λ k. slot (nth (set .tasks) k)) (omega arith))
           | inr high ↦ (let at : n / 15 ≡ 1 = omega (arith, o .few) in
-              ap (λ i. part (blockOf book i) (32 + 32 * (n % 15)) 32) at ∙
+              ap (λ i. part (block-of book i) (32 + 32 * (n % 15)) 32) at ∙
               ap (λ b. part b (32 + 32 * (n % 15)) 32) (second-of-two many) ∙
               block-record set 1 2 (n % 15) (omega arith) ∙
               ap (λ k. slot (nth (set .tasks) k)) (omega arith))
         ]
         | inr few ↦ (let at : n / 15 ≡ 0 = omega arith in
-            ap (λ i. part (blockOf book i) (32 + 32 * (n % 15)) 32) at ∙
+            ap (λ i. part (block-of book i) (32 + 32 * (n % 15)) 32) at ∙
             ap (λ b. part b (32 + 32 * (n % 15)) 32) (lone-block book (long-of-one few) ∙ one-block few) ∙
             block-record set 0 1 (n % 15) (omega arith) ∙
             ap (λ k. slot (nth (set .tasks) k)) (omega arith))
       ]
 
   module _ (n : ℕ) (t : Parameters) (below : n < N) (here : nth (set .tasks) n ≡ Some t) where
-    bytes-of : recordAt book n ≡ recordBytes t
+    bytes-of : record-at book n ≡ record-bytes t
     bytes-of = slot-of n below ∙ ap slot here
 
-    pub task-of : taskAt book n ≡ t
-    task-of = ap (λ b. parametersOf (draftOf b)) bytes-of ∙ task-back t (o .good n t here)
+    pub task-of : task-at book n ≡ t
+    task-of = ap (λ b. parameters-of (draft-of b)) bytes-of ∙ task-back t (o .good n t here)
 
-    pub no-fault : faultOf book n ≡ None
+    pub no-fault : fault-of book n ≡ None
     no-fault =
-        ap (λ b. recordFault b (place.Record (n / 15) (n % 15))) bytes-of ∙
-        ap (mapped (faultAt (place.Record (n / 15) (n % 15)))) (record-passes t (o .good n t here))
+        ap (λ b. record-fault b (place.Record (n / 15) (n % 15))) bytes-of ∙
+        ap (mapped (fault-at (place.Record (n / 15) (n % 15)))) (record-passes t (o .good n t here))
 
-  clean : (n : ℕ) → n ≤ N → firstFault book n ≡ None
-  unfolding N firstFault
+  clean : (n : ℕ) → n ≤ N → first-fault book n ≡ None
+  unfolding N first-fault
   clean zero most = refl
   clean (suc n) most =
-      ap (λ x. orOther x (faultOf book n)) (clean n (omega arith)) ∙
+      ap (λ x. orOther x (fault-of book n)) (clean n (omega arith)) ∙
       no-fault n (getD (set .tasks) n spare) (omega arith) (nth-getD (set .tasks) n spare (omega arith))
 
-  tasks-back : tasksOf book N ≡ set .tasks
+  tasks-back : tasks-of book N ≡ set .tasks
   unfolding N
   tasks-back =
-      same-lists _ _ (length-map-counting (taskAt book) 0 N)
-      (λ k d below. getD-map-counting (taskAt book) 0 N k k d (omega (arith, length-map-counting (taskAt book) 0 N)) (omega arith) ∙
-      task-of k (getD (set .tasks) k d) (omega (arith, length-map-counting (taskAt book) 0 N)) (nth-getD (set .tasks) k d (omega (arith, length-map-counting (taskAt book) 0 N))))
+      same-lists _ _ (length-map-counting (task-at book) 0 N)
+      (λ k d below. getD-map-counting (task-at book) 0 N k k d (omega (arith, length-map-counting (task-at book) 0 N)) (omega arith) ∙
+      task-of k (getD (set .tasks) k d) (omega (arith, length-map-counting (task-at book) 0 N)) (nth-getD (set .tasks) k d (omega (arith, length-map-counting (task-at book) 0 N))))
 
-  byte-of-first : (at : ℕ) → at < 512 → byte book at ≡ byte (blockBytes set 0 (blocksFor set)) at
+  byte-of-first : (at : ℕ) → at < 512 → byte book at ≡ byte (block-bytes set 0 (blocks-for set)) at
   unfolding N
   byte-of-first at inside =
       elim (cases-lt 15 N) [
-        | inl many ↦ ap (byte book) (sym (zero-add at)) ∙ sym (byte-of-block book 0 at inside) ∙ ap (λ b. byte b at) (first-of-two many) ∙ ap (λ n. byte (blockBytes set 0 n) at) (sym (ap (λ b. cond b 1 2) (lt-leb N 15 many)))
-        | inr few ↦ ap (λ b. byte b at) (one-block few) ∙ ap (λ n. byte (blockBytes set 0 n) at) (sym (ap (λ b. cond b 1 2) (le-leb N 15 few)))
+        | inl many ↦ ap (byte book) (sym (zero-add at)) ∙ sym (byte-of-block book 0 at inside) ∙ ap (λ b. byte b at) (first-of-two many) ∙ ap (λ n. byte (block-bytes set 0 n) at) (sym (ap (λ b. cond b 1 2) (lt-leb N 15 many)))
+        | inr few ↦ ap (λ b. byte b at) (one-block few) ∙ ap (λ n. byte (block-bytes set 0 n) at) (sym (ap (λ b. cond b 1 2) (le-leb N 15 few)))
       ]
 
-  ratio-p : byte (blockBytes set 0 (blocksFor set)) 4 ≡ set .p
-  unfolding blockBytes
+  ratio-p : byte (block-bytes set 0 (blocks-for set)) 4 ≡ set .p
+  unfolding block-bytes
   ratio-p = refl
 
-  ratio-q : byte (blockBytes set 0 (blocksFor set)) 5 ≡ set .q
-  unfolding blockBytes
+  ratio-q : byte (block-bytes set 0 (blocks-for set)) 5 ≡ set .q
+  unfolding block-bytes
   ratio-q = refl
 
-  pub reads-back : ReadsAs (encoded set) set
+  pub reads-back : Reads-as (encoded set) set
   unfolding N book
   reads-back = record {
-    accepted = accepted book opens (ap (firstFault book) counts ∙ clean N (omega arith));
+    accepted = accepted book opens (ap (first-fault book) counts ∙ clean N (omega arith));
     holds = λ i. record {
-      tasks = (ap (tasksOf book) counts ∙ tasks-back) i;
+      tasks = (ap (tasks-of book) counts ∙ tasks-back) i;
       p = (byte-of-first 4 (omega arith) ∙ ratio-p) i;
       q = (byte-of-first 5 (omega arith) ∙ ratio-q) i;
     };
@@ -281,7 +281,7 @@ from-row (x ∷ xs) (suc i) t e = from-row xs i t e
 task-is-good : (x : Task) → Good (parameters x)
 task-is-good x = record { timed = x .timed; constrained = x .constrained }
 
-pub orderly : (plan : Plan) → Orderly (taskSet plan)
+pub orderly : (plan : Plan) → Orderly (task-set plan)
 orderly plan = record {
   few = omega (arith, tasks-are-count plan, plan .few);
   geared = plan .ratio .geared;
@@ -291,8 +291,8 @@ orderly plan = record {
 }
 
 -- what is left in a buffer after a plan's book was written into it
-pub buffer-reads-back : (plan : Plan) (B : List ℕ) (n : ℕ) → n ≡ 512 * blocksFor (taskSet plan) → ReadsAs (take n (over B 0 (encoded (taskSet plan)))) (taskSet plan)
+pub buffer-reads-back : (plan : Plan) (B : List ℕ) (n : ℕ) → n ≡ 512 * blocks-for (task-set plan) → Reads-as (take n (over B 0 (encoded (task-set plan)))) (task-set plan)
 buffer-reads-back plan B n size =
-    let front : take n (over B 0 (encoded (taskSet plan))) ≡ encoded (taskSet plan) =
-    take-at (encoded (taskSet plan)) (drop (0 + length (encoded (taskSet plan))) B) n (book-long (taskSet plan) ∙ sym size) in
-    subst (λ b. ReadsAs b (taskSet plan)) (sym front) (reads-back (taskSet plan) (orderly plan))
+    let front : take n (over B 0 (encoded (task-set plan))) ≡ encoded (task-set plan) =
+    take-at (encoded (task-set plan)) (drop (0 + length (encoded (task-set plan))) B) n (book-long (task-set plan) ∙ sym size) in
+    subst (λ b. Reads-as b (task-set plan)) (sym front) (reads-back (task-set plan) (orderly plan))

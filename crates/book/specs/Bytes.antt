@@ -25,9 +25,9 @@ total xs (suc n) = total xs n + word32 xs (4 * n)
 abbrev pub part : List ℕ → ℕ → ℕ → List ℕ
 part xs at n = take n (drop at xs)
 
-abbrev pub allZero : List ℕ → Bool
-allZero [] = true
-allZero (x ∷ xs) = eqb x 0 && allZero xs
+abbrev pub all-zero : List ℕ → Bool
+all-zero [] = true
+all-zero (x ∷ xs) = eqb x 0 && all-zero xs
 
 -- the two bytes of a word of 16 bits
 abbrev pub bytes16 : ℕ → List ℕ

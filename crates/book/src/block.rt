@@ -4,10 +4,10 @@ ghost use mathlib.Core.Path.{_≡_};
 ghost use Prim.Native.Nat.{_+_, _≤_, _%_};
 ghost use lib.ListN.{length};
 ghost use Rattle.std.specs.declared.option.Option.the-variants.{None};
-ghost use Rattle.plan.specs.Checks.{refuseIf};
+ghost use Rattle.plan.specs.Checks.{refuse-if};
 ghost use Rattle.plan.specs.Refusals.{answer};
-ghost use Rattle.book.specs.Bytes.{byte, word32, total, allZero};
-ghost use Rattle.book.specs.Reading.{headFits, countFits, ratioFits, zerosFault, blockFault, openFault};
+ghost use Rattle.book.specs.Bytes.{byte, word32, total, all-zero};
+ghost use Rattle.book.specs.Reading.{head-fits, count-fits, ratio-fits, zeros-fault, block-fault, open-fault};
 use super::fault::BookFault;
 use plan::task::Ratio;
 
@@ -42,7 +42,7 @@ fn word(block: &[u8], at: usize) -> u32
 
 // Refuses at the first byte that is not zero.
 pub(crate) fn expect_zero<E: Copy>(bytes: &[u8], refusal: E) -> Result<(), E>
-    ensures { λ r. ⌜ r ≡ answer (refuseIf (not (allZero (now (bytes .entry)))) refusal None) tt ⌝ }
+    ensures { λ r. ⌜ r ≡ answer (refuse-if (not (all-zero (now (bytes .entry)))) refusal None) tt ⌝ }
 {
     for byte in bytes {
         if *byte != 0 {
@@ -54,13 +54,13 @@ pub(crate) fn expect_zero<E: Copy>(bytes: &[u8], refusal: E) -> Result<(), E>
 
 fn head_fits(block: &[u8], place: usize, blocks: usize) -> bool
     requires { ⌜ length (now block) ≡ 512 ⌝ }
-    ensures { λ r. ⌜ r ≡ headFits (now (block .entry)) place blocks ⌝ }
+    ensures { λ r. ⌜ r ≡ head-fits (now (block .entry)) place blocks ⌝ }
 {
     block[0] == 1 && block[1] as usize == place && block[2] as usize == blocks
 }
 
 fn count_fits(count: u8, place: usize, blocks: usize) -> bool
-    ensures { λ r. ⌜ r ≡ countFits count place blocks ⌝ }
+    ensures { λ r. ⌜ r ≡ count-fits count place blocks ⌝ }
 {
     if blocks == 1 {
         count <= 15
@@ -72,7 +72,7 @@ fn count_fits(count: u8, place: usize, blocks: usize) -> bool
 }
 
 fn ratio_fits(p: u8, q: u8, place: usize) -> bool
-    ensures { λ r. ⌜ r ≡ ratioFits p q place ⌝ }
+    ensures { λ r. ⌜ r ≡ ratio-fits p q place ⌝ }
 {
     if place == 0 {
         Ratio::new(p, q).is_some()
@@ -83,7 +83,7 @@ fn ratio_fits(p: u8, q: u8, place: usize) -> bool
 
 // The checks of a book's length and of its blocks, one after the other.
 pub(crate) fn check_blocks(book: &[u8]) -> Result<(), BookFault>
-    ensures { λ r. ⌜ r ≡ answer (openFault (now (book .entry))) tt ⌝ }
+    ensures { λ r. ⌜ r ≡ answer (open-fault (now (book .entry))) tt ⌝ }
 {
     match book.len() {
         512 => check_block(book, 0, 1),
@@ -98,7 +98,7 @@ pub(crate) fn check_blocks(book: &[u8]) -> Result<(), BookFault>
 // The first check that a block fails, at its place among so many blocks.
 fn check_block(block: &[u8], place: usize, blocks: usize) -> Result<(), BookFault>
     requires { ⌜ length (now block) ≡ 512 ⌝ }
-    ensures { λ r. ⌜ r ≡ answer (blockFault (now (block .entry)) place blocks) tt ⌝ }
+    ensures { λ r. ⌜ r ≡ answer (block-fault (now (block .entry)) place blocks) tt ⌝ }
 {
     if sum(block) != 0 {
         return Err(BookFault::Sum(place));
@@ -119,7 +119,7 @@ fn check_block(block: &[u8], place: usize, blocks: usize) -> Result<(), BookFaul
 fn check_zeros(block: &[u8], place: usize) -> Result<(), BookFault>
     requires long { ⌜ length (now block) ≡ 512 ⌝ }
     requires few { ⌜ byte (now block) 3 ≤ 15 ⌝ }
-    ensures { λ r. ⌜ r ≡ answer (zerosFault (now (block .entry)) place) tt ⌝ }
+    ensures { λ r. ⌜ r ≡ answer (zeros-fault (now (block .entry)) place) tt ⌝ }
 {
     let unused = RECORD + RECORD * block[3] as usize;
     expect_zero(&block[6..28], BookFault::Reserved(place))?;

@@ -4,8 +4,8 @@ ghost use Rattle.std.specs.Options.{mapped};
 ghost use Rattle.std.specs.Results as results;
 ghost use Rattle.std.specs.Vec.{made};
 ghost use Rattle.plan.specs.Refusals.{answer};
-ghost use Rattle.book.specs.Cursors.{walk, begun, handedOut, stepped, InOrder, seen};
-ghost use Rattle.book.specs.Reading.{openFault};
+ghost use Rattle.book.specs.Cursors.{walk, begun, handed-out, stepped, In-order, seen};
+ghost use Rattle.book.specs.Reading.{open-fault};
 use super::block::BLOCK;
 use super::block::RECORD;
 use super::block::RECORDS;
@@ -30,8 +30,8 @@ pub struct Record<'a> {
 impl<'a> Cursor<'a> {
     // Opens a book that passes the checks of its length and its blocks.
     pub fn open(book: &'a [u8]) -> Result<Cursor<'a>, BookFault>
-        ensures answer { λ r. ⌜ results.mapped walk (λ e. e) r ≡ answer (openFault (now (book .entry))) (begun (now (book .entry))) ⌝ }
-        ensures run { λ r. ⌜ made r (λ _. InOrder (now (book .entry))) ⌝ }
+        ensures answer { λ r. ⌜ results.mapped walk (λ e. e) r ≡ answer (open-fault (now (book .entry))) (begun (now (book .entry))) ⌝ }
+        ensures run { λ r. ⌜ made r (λ _. In-order (now (book .entry))) ⌝ }
     {
         check_blocks(book)?;
         Ok(Cursor { book, place: 0 })
@@ -39,7 +39,7 @@ impl<'a> Cursor<'a> {
 
     // The next record, or nothing after the last.
     pub fn next(&mut self) -> Option<Record<'a>>
-        ensures handed { λ r. ⌜ mapped seen r ≡ handedOut (walk (now (self .entry))) ⌝ }
+        ensures handed { λ r. ⌜ mapped seen r ≡ handed-out (walk (now (self .entry))) ⌝ }
         ensures after { λ _. ⌜ walk (now (self .exit)) ≡ stepped (walk (now (self .entry))) ⌝ }
     {
         let book = self.book;

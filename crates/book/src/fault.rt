@@ -1,6 +1,6 @@
 // Why a book is refused, with what each refusal says.
 ghost use mathlib.Core.Path.{_≡_};
-ghost use Rattle.book.specs.Refusals.{inBook, bookAccount};
+ghost use Rattle.book.specs.Refusals.{in-book, book-account};
 use plan::fault::Account;
 use plan::fault::Layer;
 use plan::fault::Place;
@@ -28,7 +28,7 @@ pub enum BookFault {
 }
 
 pub impl From<RecordFault> for BookFault as BookFaultFromRecord {
-    ghost converts = { λ fault r. r ≡ inBook fault };
+    ghost converts = { λ fault r. r ≡ in-book fault };
 
     fn from(fault: RecordFault) -> BookFault {
         BookFault::Record(fault)
@@ -37,7 +37,7 @@ pub impl From<RecordFault> for BookFault as BookFaultFromRecord {
 
 impl BookFault {
     pub fn account(&self) -> Account
-        ensures { λ r. ⌜ r ≡ bookAccount (now (self .entry)) ⌝ }
+        ensures { λ r. ⌜ r ≡ book-account (now (self .entry)) ⌝ }
     {
         let (number, place) = match self {
             BookFault::Length => (1, Place::Nowhere),

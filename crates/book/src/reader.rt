@@ -6,10 +6,10 @@ ghost use Rattle.std.specs.Results.{isOk, mapped};
 ghost use Rattle.std.specs.Vec.{made};
 ghost use Rattle.std.specs.declared.option.Option.the-variants.{None};
 ghost use Rattle.plan.specs.Refusals.{answer, left};
-ghost use Rattle.plan.specs.Checks.{parametersOf};
-ghost use Rattle.plan.specs.TaskSet.{taskSet, parameters};
-ghost use Rattle.book.specs.Cursors.{walk, begun, placeOf};
-ghost use Rattle.book.specs.Reading.{draftOf, recordFault, openFault, firstFault, records, readFault, decoded, holding};
+ghost use Rattle.plan.specs.Checks.{parameters-of};
+ghost use Rattle.plan.specs.TaskSet.{task-set, parameters};
+ghost use Rattle.book.specs.Cursors.{walk, begun, place-of};
+ghost use Rattle.book.specs.Reading.{draft-of, record-fault, open-fault, first-fault, records, read-fault, decoded, holding};
 use super::block::expect_zero;
 use super::cursor::Cursor;
 use super::cursor::Record;
@@ -27,7 +27,7 @@ use plan::task::Task;
 // Takes a record apart into its numbers and the rest.
 fn fields(bytes: &[u8]) -> (Draft, &[u8])
     requires { ⌜ length (now bytes) ≡ 32 ⌝ }
-    ensures numbers { λ r. ⌜ r .0 ≡ draftOf (now (bytes .entry)) ⌝ }
+    ensures numbers { λ r. ⌜ r .0 ≡ draft-of (now (bytes .entry)) ⌝ }
     ensures rest { λ r. ⌜ now (r .1) ≡ drop 9 (now (bytes .entry)) ⌝ }
 {
     let [t0, t1, d0, d1, c0, c1, m, k, speed, rest @ ..] = bytes else {
@@ -47,7 +47,7 @@ fn fields(bytes: &[u8]) -> (Draft, &[u8])
 // The task of a record, or its first fault.
 fn task_of(item: &Record) -> Result<Task, RecordFault>
     requires { ⌜ length (now item .bytes .now) ≡ 32 ⌝ }
-    ensures { λ r. ⌜ mapped parameters (λ e. e) r ≡ answer (recordFault (now (item .entry) .bytes .now) (placeOf (now (item .entry)))) (parametersOf (draftOf (now (item .entry) .bytes .now))) ⌝ }
+    ensures { λ r. ⌜ mapped parameters (λ e. e) r ≡ answer (record-fault (now (item .entry) .bytes .now) (place-of (now (item .entry)))) (parameters-of (draft-of (now (item .entry) .bytes .now))) ⌝ }
 {
     let place = Place::Record(item.block, item.number);
     let (draft, rest) = fields(item.bytes);
@@ -59,9 +59,9 @@ fn task_of(item: &Record) -> Result<Task, RecordFault>
 
 // The plan of an opened book with that ratio, or the first fault of its records.
 fn collected(mut cursor: Cursor, ratio: Ratio) -> Result<Plan, RecordFault>
-    requires opened { ⌜ openFault (cursor .book .now) ≡ None ⌝ }
+    requires opened { ⌜ open-fault (cursor .book .now) ≡ None ⌝ }
     requires begun { ⌜ walk cursor ≡ begun (cursor .book .now) ⌝ }
-    ensures { λ r. ⌜ mapped taskSet (λ e. e) r ≡ answer (firstFault (cursor .entry .book .now) (records (cursor .entry .book .now))) (holding (cursor .entry .book .now) (ratio .p) (ratio .q)) ⌝ }
+    ensures { λ r. ⌜ mapped task-set (λ e. e) r ≡ answer (first-fault (cursor .entry .book .now) (records (cursor .entry .book .now))) (holding (cursor .entry .book .now) (ratio .p) (ratio .q)) ⌝ }
 {
     let mut plan = Plan::with_ratio(ratio);
     while let Some(item) = cursor.next() {
@@ -74,10 +74,10 @@ fn collected(mut cursor: Cursor, ratio: Ratio) -> Result<Plan, RecordFault>
 
 // Reads a book into the plan, or says why it is none and leaves the plan as it is.
 pub fn read(book: &[u8], plan: &mut Plan) -> Result<(), BookFault>
-    ensures answer { λ r. ⌜ r ≡ answer (readFault (now (book .entry))) tt ⌝ }
-    ensures after { λ _. ⌜ taskSet (now (plan .exit)) ≡ left (readFault (now (book .entry))) (decoded (now (book .entry))) (taskSet (now (plan .entry))) ⌝ }
+    ensures answer { λ r. ⌜ r ≡ answer (read-fault (now (book .entry))) tt ⌝ }
+    ensures after { λ _. ⌜ task-set (now (plan .exit)) ≡ left (read-fault (now (book .entry))) (decoded (now (book .entry))) (task-set (now (plan .entry))) ⌝ }
     ensures kept { λ r. ⌜ (isOk r ≡ false → now (plan .exit) ≡ now (plan .entry)) ⌝ }
-    ensures rewrites { λ r. ⌜ made r (λ _. encoded (taskSet (now (plan .exit))) ≡ now (book .entry)) ⌝ }
+    ensures rewrites { λ r. ⌜ made r (λ _. encoded (task-set (now (plan .exit))) ≡ now (book .entry)) ⌝ }
 {
     let cursor = Cursor::open(book)?;
     let Some(ratio) = Ratio::new(book[4], book[5]) else {

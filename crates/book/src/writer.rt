@@ -6,9 +6,9 @@ ghost use lib.ListN.{length, replicate, take};
 ghost use Rattle.std.specs.Finite.{nth};
 ghost use Rattle.std.specs.Vec.{made};
 ghost use Rattle.plan.specs.Refusals.{answer, left};
-ghost use Rattle.plan.specs.TaskSet.{taskSet, parameters, paced};
-ghost use Rattle.book.specs.RoundTrip.{ReadsAs};
-ghost use Rattle.book.specs.Writing.{over, recordBytes, slot, recordsOf, headOf, blockBytes, blocksFor, encoded, writeFault};
+ghost use Rattle.plan.specs.TaskSet.{task-set, parameters, paced};
+ghost use Rattle.book.specs.RoundTrip.{Reads-as};
+ghost use Rattle.book.specs.Writing.{over, record-bytes, slot, records-of, head-of, block-bytes, blocks-for, encoded, write-fault};
 use super::block::BLOCK;
 use super::block::RECORD;
 use super::block::RECORDS;
@@ -29,7 +29,7 @@ fn speed_code(speed: Speed) -> u8
 
 // The record of a task.
 fn record_bytes(task: &Task) -> [u8; 32]
-    ensures { λ r. ⌜ r ≡ recordBytes (parameters (now (task .entry))) ⌝ }
+    ensures { λ r. ⌜ r ≡ record-bytes (parameters (now (task .entry))) ⌝ }
 {
     let [t0, t1] = task.period.to_le_bytes();
     let [d0, d1] = task.deadline.to_le_bytes();
@@ -51,7 +51,7 @@ fn record_bytes(task: &Task) -> [u8; 32]
 fn head_bytes(plan: &Plan, place: usize, blocks: usize) -> [u8; 32]
     requires place { ⌜ place ≤ 1 ⌝ }
     requires blocks { ⌜ blocks ≤ 2 ⌝ }
-    ensures { λ r. ⌜ r ≡ headOf (taskSet (now (plan .entry))) place blocks ++ replicate 4 0 ⌝ }
+    ensures { λ r. ⌜ r ≡ head-of (task-set (now (plan .entry))) place blocks ++ replicate 4 0 ⌝ }
 {
     let used = RECORDS.min(plan.len().saturating_sub(RECORDS * place));
     let mut bytes = [0; 32];
@@ -68,7 +68,7 @@ fn head_bytes(plan: &Plan, place: usize, blocks: usize) -> [u8; 32]
 
 // The record of the task with that number, or an unused one.
 fn slot_bytes(plan: &Plan, number: usize) -> [u8; 32]
-    ensures { λ r. ⌜ r ≡ slot (nth (taskSet (now (plan .entry)) .tasks) number) ⌝ }
+    ensures { λ r. ⌜ r ≡ slot (nth (task-set (now (plan .entry)) .tasks) number) ⌝ }
 {
     match plan.task(number) {
         Some(task) => record_bytes(&task),
@@ -88,7 +88,7 @@ fn put(block: &mut [u8], at: usize, bytes: &[u8])
 fn put_records(plan: &Plan, place: usize, block: &mut [u8])
     requires place { ⌜ place ≤ 1 ⌝ }
     requires long { ⌜ length (now block) ≡ 512 ⌝ }
-    ensures { λ _. ⌜ now (block .exit) ≡ take 32 (now (block .entry)) ++ recordsOf (taskSet (now (plan .entry))) place ⌝ }
+    ensures { λ _. ⌜ now (block .exit) ≡ take 32 (now (block .entry)) ++ records-of (task-set (now (plan .entry))) place ⌝ }
 {
     for r in 0..RECORDS {
         put(
@@ -104,7 +104,7 @@ fn write_block(plan: &Plan, place: usize, blocks: usize, block: &mut [u8])
     requires place { ⌜ place ≤ 1 ⌝ }
     requires blocks { ⌜ blocks ≤ 2 ⌝ }
     requires long { ⌜ length (now block) ≡ 512 ⌝ }
-    ensures { λ _. ⌜ now (block .exit) ≡ blockBytes (taskSet (now (plan .entry))) place blocks ⌝ }
+    ensures { λ _. ⌜ now (block .exit) ≡ block-bytes (task-set (now (plan .entry))) place blocks ⌝ }
 {
     put(block, 0, &head_bytes(plan, place, blocks));
     put_records(plan, place, block);
@@ -114,16 +114,16 @@ fn write_block(plan: &Plan, place: usize, blocks: usize, block: &mut [u8])
 
 // How many blocks the plan's book has.
 fn blocks_for(plan: &Plan) -> usize
-    ensures { λ r. ⌜ r ≡ blocksFor (taskSet (now (plan .entry))) ⌝ }
+    ensures { λ r. ⌜ r ≡ blocks-for (task-set (now (plan .entry))) ⌝ }
 {
     if plan.len() <= RECORDS { 1 } else { 2 }
 }
 
 // Writes the plan as a book and answers its length: 512 bytes for up to 15 tasks, and else 1,024.
 pub fn write(plan: &Plan, buffer: &mut [u8]) -> Result<usize, BookFault>
-    ensures answer { λ r. ⌜ r ≡ answer (writeFault (taskSet (now (plan .entry))) (length (now (buffer .entry)))) (512 * blocksFor (taskSet (now (plan .entry)))) ⌝ }
-    ensures after { λ _. ⌜ now (buffer .exit) ≡ left (writeFault (taskSet (now (plan .entry))) (length (now (buffer .entry)))) (over (now (buffer .entry)) 0 (encoded (taskSet (now (plan .entry))))) (now (buffer .entry)) ⌝ }
-    ensures reads_back { λ r. ⌜ made r (λ n. ReadsAs (take n (now (buffer .exit))) (taskSet (now (plan .entry)))) ⌝ }
+    ensures answer { λ r. ⌜ r ≡ answer (write-fault (task-set (now (plan .entry))) (length (now (buffer .entry)))) (512 * blocks-for (task-set (now (plan .entry)))) ⌝ }
+    ensures after { λ _. ⌜ now (buffer .exit) ≡ left (write-fault (task-set (now (plan .entry))) (length (now (buffer .entry)))) (over (now (buffer .entry)) 0 (encoded (task-set (now (plan .entry))))) (now (buffer .entry)) ⌝ }
+    ensures reads_back { λ r. ⌜ made r (λ n. Reads-as (take n (now (buffer .exit))) (task-set (now (plan .entry)))) ⌝ }
 {
     let blocks = blocks_for(plan);
     if buffer.len() < BLOCK * blocks {

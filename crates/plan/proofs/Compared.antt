@@ -6,26 +6,26 @@ use native.Mathlib.Omega.{arith}
 use lib.ListN.{length, getD, take, length-take}
 use Rattle.std.proofs.shelf.Lists.{length-map, getD-map, getD-take, getD-default, map-more, map-push}
 use Rattle.plan.proofs.Listed.{tasks-are-count}
-use Rattle.plan.specs.TaskSet.{Same, taskSet, parameters, timing}
+use Rattle.plan.specs.TaskSet.{Same, task-set, parameters, timing}
 use Rattle.plan.specs.declared.plan.Plan.{Plan}
 use Rattle.plan.specs.declared.task.Task.{Task}
 
-pub same-counts : (a b : Plan) → Same (taskSet a) (taskSet b) → a .count ≡ b .count
+pub same-counts : (a b : Plan) → Same (task-set a) (task-set b) → a .count ≡ b .count
 same-counts a b same =
-    let lengths : length (taskSet a .tasks) ≡ length (taskSet b .tasks) =
-    sym (length-map (taskSet a .tasks) timing) ∙ ap length same ∙ length-map (taskSet b .tasks) timing in
+    let lengths : length (task-set a .tasks) ≡ length (task-set b .tasks) =
+    sym (length-map (task-set a .tasks) timing) ∙ ap length same ∙ length-map (task-set b .tasks) timing in
     sym (tasks-are-count a) ∙ lengths ∙ tasks-are-count b
 
 -- the timing that stands at i in a plan is that of its row i
-timing-at : (p : Plan) (i : ℕ) (d : Task) → i < p .count → getD (map timing (taskSet p .tasks)) i (timing (parameters d)) ≡ timing (parameters (getD (p .rows) i d))
+timing-at : (p : Plan) (i : ℕ) (d : Task) → i < p .count → getD (map timing (task-set p .tasks)) i (timing (parameters d)) ≡ timing (parameters (getD (p .rows) i d))
 timing-at p i d below =
     let inside : i < length (take (p .count) (p .rows)) = simp length-take (omega (arith, p .few, p .wide)) in
-    let listed : i < length (taskSet p .tasks) = omega (arith, tasks-are-count p) in
-    getD-map timing (taskSet p .tasks) i (parameters d) (timing (parameters d)) listed ∙
+    let listed : i < length (task-set p .tasks) = omega (arith, tasks-are-count p) in
+    getD-map timing (task-set p .tasks) i (parameters d) (timing (parameters d)) listed ∙
     ap timing (getD-map parameters (take (p .count) (p .rows)) i d (parameters d) inside) ∙
     ap (λ t. timing (parameters t)) (getD-take (p .count) (p .rows) i d below)
 
-pub same-at : (a b : Plan) (i : ℕ) (x y : Task) → Same (taskSet a) (taskSet b) → i < a .count
+pub same-at : (a b : Plan) (i : ℕ) (x y : Task) → Same (task-set a) (task-set b) → i < a .count
     → timing (parameters (getD (a .rows) i x)) ≡ timing (parameters (getD (b .rows) i y))
 same-at a b i x y same below =
     let other : i < b .count = omega (arith, same-counts a b same) in

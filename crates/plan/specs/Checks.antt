@@ -9,7 +9,7 @@ use Rattle.std.specs.Options.{mapped}
 use Rattle.std.specs.declared.option.Option.{Option}
 use Rattle.std.specs.declared.option.Option.the-variants.{Some, None}
 use Rattle.std.specs.declared.result.Result.{Result}
-use Rattle.plan.specs.Refusals.{answer, inPlan}
+use Rattle.plan.specs.Refusals.{answer, in-plan}
 use Rattle.plan.specs.TaskSet.{Parameters, TaskSet}
 use Rattle.plan.specs.declared.draft.Draft.{Draft}
 use Rattle.plan.specs.declared.fault.Place.{Place}
@@ -24,72 +24,72 @@ use Rattle.plan.specs.declared.task.Speed.{Speed}
 use Rattle.plan.specs.declared.task.Speed.the-variants.{High, Low}
 
 -- 0 is high, 1 is low
-abbrev pub speedOf : ℕ → Speed
-speedOf n = cond (eqb n 0) High Low
+abbrev pub speed-of : ℕ → Speed
+speed-of n = cond (eqb n 0) High Low
 
-abbrev pub parametersOf : Draft → Parameters
-parametersOf d = record {
+abbrev pub parameters-of : Draft → Parameters
+parameters-of d = record {
   period = d .period;
   deadline = d .deadline;
   work = d .work;
   m = d .m;
   k = d .k;
-  speed = speedOf (d .speed);
+  speed = speed-of (d .speed);
 }
 
 -- refuses with e if something is bad, and else goes on to the rest of the checks
-abbrev pub refuseIf : {E : Type 0} → Bool → E → Option E → Option E
-refuseIf bad e rest = cond bad (Some e) rest
+abbrev pub refuse-if : {E : Type 0} → Bool → E → Option E → Option E
+refuse-if bad e rest = cond bad (Some e) rest
 
 -- the first check that the numbers of a task fail
-abbrev pub firstError : Draft → Option RecordError
-firstError d =
-    refuseIf (eqb (d .period) 0) Period
-    (refuseIf (eqb (d .deadline) 0 || ltb (d .period) (d .deadline)) Deadline
-    (refuseIf (eqb (d .work) 0 || ltb (d .deadline) (d .work)) Work
-    (refuseIf (eqb (d .m) 0 || (ltb (d .k) (d .m) || ltb 32 (d .k))) Constraint
-    (refuseIf (ltb 1 (d .speed)) SpeedOrRest
+abbrev pub first-error : Draft → Option RecordError
+first-error d =
+    refuse-if (eqb (d .period) 0) Period
+    (refuse-if (eqb (d .deadline) 0 || ltb (d .period) (d .deadline)) Deadline
+    (refuse-if (eqb (d .work) 0 || ltb (d .deadline) (d .work)) Work
+    (refuse-if (eqb (d .m) 0 || (ltb (d .k) (d .m) || ltb 32 (d .k))) Constraint
+    (refuse-if (ltb 1 (d .speed)) SpeedOrRest
     None))))
 
 -- a fault at that place
-abbrev pub faultAt : Place → RecordError → RecordFault
-faultAt at e = record { error = e; place = at }
+abbrev pub fault-at : Place → RecordError → RecordFault
+fault-at at e = record { error = e; place = at }
 
-abbrev pub recordFault : Draft → Place → Option RecordFault
-recordFault d at = mapped (faultAt at) (firstError d)
+abbrev pub record-fault : Draft → Place → Option RecordFault
+record-fault d at = mapped (fault-at at) (first-error d)
 
 -- the task that the numbers give, or the first fault, at the place that its reader gives
 abbrev pub checked : Draft → Place → Result Parameters RecordFault
-checked d at = answer (recordFault d at) (parametersOf d)
+checked d at = answer (record-fault d at) (parameters-of d)
 
 -- why a task cannot be added: 30 tasks first, then its numbers, at the number that it would have had
-abbrev pub addFault : TaskSet → Draft → Option PlanFault
-addFault set d =
-    refuseIf (leb 30 (length (set .tasks))) plan.Full
-    (mapped inPlan (recordFault d (place.Task (length (set .tasks)))))
+abbrev pub add-fault : TaskSet → Draft → Option PlanFault
+add-fault set d =
+    refuse-if (leb 30 (length (set .tasks))) plan.Full
+    (mapped in-plan (record-fault d (place.Task (length (set .tasks)))))
 
-abbrev pub withTask : TaskSet → Parameters → TaskSet
-withTask set t = record { tasks = set .tasks ++ (t ∷ []); p = set .p; q = set .q }
+abbrev pub with-task : TaskSet → Parameters → TaskSet
+with-task set t = record { tasks = set .tasks ++ (t ∷ []); p = set .p; q = set .q }
 
 -- the number that the next task gets, or none where there are 30 already
-abbrev pub nextNumber : TaskSet → Option ℕ
-nextNumber set = cond (leb 30 (length (set .tasks))) None (Some (length (set .tasks)))
+abbrev pub next-number : TaskSet → Option ℕ
+next-number set = cond (leb 30 (length (set .tasks))) None (Some (length (set .tasks)))
 
 abbrev pub appended : TaskSet → Parameters → TaskSet
-appended set t = cond (leb 30 (length (set .tasks))) set (withTask set t)
+appended set t = cond (leb 30 (length (set .tasks))) set (with-task set t)
 
 -- outside 1 ≤ q ≤ p ≤ 16
-abbrev pub outOfGear : ℕ → ℕ → Bool
-outOfGear p q = eqb q 0 || (ltb p q || ltb 16 p)
+abbrev pub out-of-gear : ℕ → ℕ → Bool
+out-of-gear p q = eqb q 0 || (ltb p q || ltb 16 p)
 
 abbrev pub gears : Ratio → ℕ × ℕ
 gears ratio = (ratio .p, ratio .q)
 
 abbrev pub geared : ℕ → ℕ → Option (ℕ × ℕ)
-geared p q = cond (outOfGear p q) None (Some (p, q))
+geared p q = cond (out-of-gear p q) None (Some (p, q))
 
-abbrev pub ratioFault : ℕ → ℕ → Option PlanFault
-ratioFault p q = refuseIf (outOfGear p q) plan.Ratio None
+abbrev pub ratio-fault : ℕ → ℕ → Option PlanFault
+ratio-fault p q = refuse-if (out-of-gear p q) plan.Ratio None
 
-abbrev pub withRatio : TaskSet → ℕ → ℕ → TaskSet
-withRatio set p q = record { tasks = set .tasks; p = p; q = q }
+abbrev pub with-ratio : TaskSet → ℕ → ℕ → TaskSet
+with-ratio set p q = record { tasks = set .tasks; p = p; q = q }

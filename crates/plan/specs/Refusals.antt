@@ -20,24 +20,24 @@ use Rattle.plan.specs.declared.fault.RecordFault.{RecordFault}
 abbrev pub plain : ℕ → Layer → Place → Account
 plain number from at = record { number = number; layer = from; place = at; overload = None }
 
-abbrev pub recordNumber : RecordError → ℕ
-recordNumber Period = 7
-recordNumber Deadline = 8
-recordNumber Work = 9
-recordNumber Constraint = 10
-recordNumber SpeedOrRest = 11
+abbrev pub record-number : RecordError → ℕ
+record-number Period = 7
+record-number Deadline = 8
+record-number Work = 9
+record-number Constraint = 10
+record-number SpeedOrRest = 11
 
-abbrev pub recordAccount : RecordFault → Account
-recordAccount fault = plain (recordNumber (fault .error)) layer.Record (fault .place)
+abbrev pub record-account : RecordFault → Account
+record-account fault = plain (record-number (fault .error)) layer.Record (fault .place)
 
-abbrev pub planAccount : PlanFault → Account
-planAccount (plan.Record fault) = recordAccount fault
-planAccount plan.Full = plain 17 layer.Plan (place.Task 30)
-planAccount plan.Ratio = plain 5 layer.Plan place.Nowhere
+abbrev pub plan-account : PlanFault → Account
+plan-account (plan.Record fault) = record-account fault
+plan-account plan.Full = plain 17 layer.Plan (place.Task 30)
+plan-account plan.Ratio = plain 5 layer.Plan place.Nowhere
 
 -- a record's fault, carried whole
-abbrev pub inPlan : RecordFault → PlanFault
-inPlan fault = plan.Record fault
+abbrev pub in-plan : RecordFault → PlanFault
+in-plan fault = plan.Record fault
 
 -- the answer of a call that refuses with a fault, or else answers a
 abbrev pub answer : {A F : Type 0} → Option F → A → Result A F

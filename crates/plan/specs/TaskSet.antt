@@ -34,8 +34,8 @@ parameters t = record {
   speed = t .speed;
 }
 
-abbrev pub taskSet : Plan → TaskSet
-taskSet plan = record {
+abbrev pub task-set : Plan → TaskSet
+task-set plan = record {
   tasks = map parameters (take (plan .count) (plan .rows));
   p = plan .ratio .p;
   q = plan .ratio .q;
@@ -54,8 +54,8 @@ paced High fast slow = fast
 paced Low fast slow = slow
 
 -- the work W of one job in ticks: C at high speed, C × p / q rounded up at low speed
-abbrev pub jobWork : (p q : ℕ) → Parameters → ℕ
-jobWork p q t = paced (t .speed) (t .work) (ceiling (t .work * p) q)
+abbrev pub job-work : (p q : ℕ) → Parameters → ℕ
+job-work p q t = paced (t .speed) (t .work) (ceiling (t .work * p) q)
 
 -- what two plans must share to be the same: the parameters without the speed
 pub record Timing : Type 0 where

@@ -6,9 +6,9 @@ ghost use lib.ListN.{length};
 ghost use Rattle.std.specs.Options as options;
 ghost use Rattle.std.specs.Options.{isSome};
 ghost use Rattle.std.specs.Results.{isOk, mapped};
-ghost use Rattle.plan.specs.Checks.{checked, addFault, nextNumber, appended, withTask, parametersOf, gears, geared, ratioFault, withRatio};
+ghost use Rattle.plan.specs.Checks.{checked, add-fault, next-number, appended, with-task, parameters-of, gears, geared, ratio-fault, with-ratio};
 ghost use Rattle.plan.specs.Refusals.{answer, left};
-ghost use Rattle.plan.specs.TaskSet.{taskSet, parameters, empty};
+ghost use Rattle.plan.specs.TaskSet.{task-set, parameters, empty};
 use super::draft::Draft;
 use super::fault::Place;
 use super::fault::PlanFault;
@@ -74,7 +74,7 @@ impl Ratio {
 impl Plan {
     // An empty plan with that ratio.
     pub fn with_ratio(ratio: Ratio) -> Plan
-        ensures { λ r. ⌜ taskSet r ≡ withRatio empty (ratio .p) (ratio .q) ⌝ }
+        ensures { λ r. ⌜ task-set r ≡ with-ratio empty (ratio .p) (ratio .q) ⌝ }
     {
         let mut plan = Plan::new();
         plan.ratio = ratio;
@@ -83,8 +83,8 @@ impl Plan {
 
     // Adds a task at the end and answers its number.
     pub fn add(&mut self, draft: Draft) -> Result<usize, PlanFault>
-        ensures answer { λ r. ⌜ r ≡ answer (addFault (taskSet (now (self .entry))) draft) (length (taskSet (now (self .entry)) .tasks)) ⌝ }
-        ensures after { λ _. ⌜ taskSet (now (self .exit)) ≡ left (addFault (taskSet (now (self .entry))) draft) (withTask (taskSet (now (self .entry))) (parametersOf draft)) (taskSet (now (self .entry))) ⌝ }
+        ensures answer { λ r. ⌜ r ≡ answer (add-fault (task-set (now (self .entry))) draft) (length (task-set (now (self .entry)) .tasks)) ⌝ }
+        ensures after { λ _. ⌜ task-set (now (self .exit)) ≡ left (add-fault (task-set (now (self .entry))) draft) (with-task (task-set (now (self .entry))) (parameters-of draft)) (task-set (now (self .entry))) ⌝ }
         ensures kept { λ r. ⌜ (isOk r ≡ false → now (self .exit) ≡ now (self .entry)) ⌝ }
     {
         let number = self.count;
@@ -98,8 +98,8 @@ impl Plan {
 
     // Adds a task that is checked already, and answers its number, or nothing where there are 30.
     pub fn append(&mut self, task: Task) -> Option<usize>
-        ensures answer { λ r. ⌜ r ≡ nextNumber (taskSet (now (self .entry))) ⌝ }
-        ensures after { λ _. ⌜ taskSet (now (self .exit)) ≡ appended (taskSet (now (self .entry))) (parameters task) ⌝ }
+        ensures answer { λ r. ⌜ r ≡ next-number (task-set (now (self .entry))) ⌝ }
+        ensures after { λ _. ⌜ task-set (now (self .exit)) ≡ appended (task-set (now (self .entry))) (parameters task) ⌝ }
         ensures kept { λ r. ⌜ (isSome r ≡ false → now (self .exit) ≡ now (self .entry)) ⌝ }
     {
         let number = self.count;
@@ -112,7 +112,7 @@ impl Plan {
 
     fn push(&mut self, task: Task)
         requires { ⌜ now self .count < 30 ⌝ }
-        ensures { λ _. ⌜ taskSet (now (self .exit)) ≡ withTask (taskSet (now (self .entry))) (parameters task) ⌝ }
+        ensures { λ _. ⌜ task-set (now (self .exit)) ≡ with-task (task-set (now (self .entry))) (parameters task) ⌝ }
     {
         self.rows[self.count] = task;
         self.count += 1;
@@ -120,8 +120,8 @@ impl Plan {
 
     // Sets the ratio p/q of the high speed to the low one.
     pub fn set_ratio(&mut self, p: u8, q: u8) -> Result<(), PlanFault>
-        ensures answer { λ r. ⌜ r ≡ answer (ratioFault p q) tt ⌝ }
-        ensures after { λ _. ⌜ taskSet (now (self .exit)) ≡ left (ratioFault p q) (withRatio (taskSet (now (self .entry))) p q) (taskSet (now (self .entry))) ⌝ }
+        ensures answer { λ r. ⌜ r ≡ answer (ratio-fault p q) tt ⌝ }
+        ensures after { λ _. ⌜ task-set (now (self .exit)) ≡ left (ratio-fault p q) (with-ratio (task-set (now (self .entry))) p q) (task-set (now (self .entry))) ⌝ }
         ensures kept { λ r. ⌜ (isOk r ≡ false → now (self .exit) ≡ now (self .entry)) ⌝ }
     {
         let Some(ratio) = Ratio::new(p, q) else {

@@ -3,7 +3,7 @@
 ghost use mathlib.Core.Path.{_≡_};
 ghost use Rattle.std.specs.Orderings.{Decides};
 ghost use Rattle.plan.specs.Laws.{Same-is-an-equivalence};
-ghost use Rattle.plan.specs.TaskSet.{Same, taskSet, parameters, timing};
+ghost use Rattle.plan.specs.TaskSet.{Same, task-set, parameters, timing};
 use super::plan::Plan;
 use super::task::Task;
 
@@ -21,7 +21,7 @@ impl Task {
 
 impl Plan {
     pub fn same(&self, other: &Plan) -> bool
-        ensures { λ r. ⌜ Decides r (Same (taskSet (now (self .entry))) (taskSet (now (other .entry)))) ⌝ }
+        ensures { λ r. ⌜ Decides r (Same (task-set (now (self .entry))) (task-set (now (other .entry)))) ⌝ }
     {
         if self.count != other.count {
             return false;

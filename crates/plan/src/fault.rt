@@ -1,6 +1,6 @@
 // What a refusal says: its number, the layer it comes from, its place, and what it carries.
 ghost use mathlib.Core.Path.{_≡_};
-ghost use Rattle.plan.specs.Refusals.{inPlan, recordAccount, planAccount};
+ghost use Rattle.plan.specs.Refusals.{in-plan, record-account, plan-account};
 
 #[derive(Clone, Copy, PartialEq, Eq, Debug)]
 pub enum Layer {
@@ -60,7 +60,7 @@ pub struct RecordFault {
 
 impl RecordFault {
     pub fn account(&self) -> Account
-        ensures { λ r. ⌜ r ≡ recordAccount (now (self .entry)) ⌝ }
+        ensures { λ r. ⌜ r ≡ record-account (now (self .entry)) ⌝ }
     {
         Account {
             number: match self.error {
@@ -87,7 +87,7 @@ pub enum PlanFault {
 }
 
 pub impl From<RecordFault> for PlanFault as PlanFaultFromRecord {
-    ghost converts = { λ fault r. r ≡ inPlan fault };
+    ghost converts = { λ fault r. r ≡ in-plan fault };
 
     fn from(fault: RecordFault) -> PlanFault {
         PlanFault::Record(fault)
@@ -96,7 +96,7 @@ pub impl From<RecordFault> for PlanFault as PlanFaultFromRecord {
 
 impl PlanFault {
     pub fn account(&self) -> Account
-        ensures { λ r. ⌜ r ≡ planAccount (now (self .entry)) ⌝ }
+        ensures { λ r. ⌜ r ≡ plan-account (now (self .entry)) ⌝ }
     {
         match self {
             PlanFault::Record(fault) => fault.account(),

@@ -3,7 +3,7 @@ ghost use mathlib.Core.Path.{_≡_};
 ghost use lib.ListN.{length};
 ghost use Rattle.std.specs.Options.{mapped};
 ghost use Rattle.std.specs.Finite.{nth};
-ghost use Rattle.plan.specs.TaskSet.{taskSet, empty, parameters, jobWork};
+ghost use Rattle.plan.specs.TaskSet.{task-set, empty, parameters, job-work};
 use super::plan::Plan;
 use super::task::Ratio;
 use super::task::Speed;
@@ -13,7 +13,7 @@ impl Task {
     // The work of one job in ticks: `work` at high speed, and at low speed as much longer as the ratio says,
     // rounded up.
     pub fn job_work(&self, ratio: Ratio) -> u32
-        ensures { λ r. ⌜ r ≡ jobWork (ratio .p) (ratio .q) (parameters (now (self .entry))) ⌝ }
+        ensures { λ r. ⌜ r ≡ job-work (ratio .p) (ratio .q) (parameters (now (self .entry))) ⌝ }
     {
         let fast = u32::from(self.work);
         match self.speed {
@@ -26,7 +26,7 @@ impl Task {
 
 impl Plan {
     pub fn new() -> Plan
-        ensures { λ r. ⌜ taskSet r ≡ empty ⌝ }
+        ensures { λ r. ⌜ task-set r ≡ empty ⌝ }
     {
         let spare = Task {
             period: 1,
@@ -45,14 +45,14 @@ impl Plan {
 
     // The number of tasks.
     pub fn len(&self) -> usize
-        ensures { λ r. ⌜ r ≡ length (taskSet (now (self .entry)) .tasks) ⌝ }
+        ensures { λ r. ⌜ r ≡ length (task-set (now (self .entry)) .tasks) ⌝ }
     {
         self.count
     }
 
     // The task with that number.
     pub fn task(&self, number: usize) -> Option<Task>
-        ensures { λ r. ⌜ mapped parameters r ≡ nth (taskSet (now (self .entry)) .tasks) number ⌝ }
+        ensures { λ r. ⌜ mapped parameters r ≡ nth (task-set (now (self .entry)) .tasks) number ⌝ }
     {
         if number < self.count {
             Some(self.rows[number])
@@ -62,8 +62,8 @@ impl Plan {
     }
 
     pub fn ratio(&self) -> Ratio
-        ensures p { λ r. ⌜ r .p ≡ taskSet (now (self .entry)) .p ⌝ }
-        ensures q { λ r. ⌜ r .q ≡ taskSet (now (self .entry)) .q ⌝ }
+        ensures p { λ r. ⌜ r .p ≡ task-set (now (self .entry)) .p ⌝ }
+        ensures q { λ r. ⌜ r .q ≡ task-set (now (self .entry)) .q ⌝ }
     {
         self.ratio
     }

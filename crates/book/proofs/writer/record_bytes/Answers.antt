@@ -1,10 +1,10 @@
 use mathlib.Core.List.{_∷_}
 use lib.ListN.{getD, replicate}
-use Rattle.book.specs.Writing.{recordBytes}
+use Rattle.book.specs.Writing.{record-bytes}
 use Rattle.book.proofs.writer.record_bytes.Needs as need
 
 pub returns : need.returns
-unfolding recordBytes
+unfolding record-bytes
 returns c = λ i.
     getD (c .to-le-bytes .ensures i) 0 0 ∷ getD (c .to-le-bytes .ensures i) 1 0 ∷
     getD (c .to-le-bytes-2 .ensures i) 0 0 ∷ getD (c .to-le-bytes-2 .ensures i) 1 0 ∷

@@ -6,7 +6,7 @@ use native.Mathlib.Omega.{arith}
 use Rattle.std.specs.declared.option.Option.{Option}
 use Rattle.std.specs.declared.option.Option.the-variants.{Some, None}
 use Rattle.book.proofs.Walked.{has-it, part-is-record}
-use Rattle.book.specs.Cursors.{Seen, recordSeen}
+use Rattle.book.specs.Cursors.{Seen, record-seen}
 use Rattle.book.specs.Reading.{offset}
 use Rattle.book.proofs.cursor.Cursor.next.Needs as need
 
@@ -20,6 +20,6 @@ returns c =
     record {
       handed =
           ap (λ (bytes : List ℕ). Some (record { bytes = bytes; block = n / 15; number = n % 15 })) (part-is-record book n ((512 * (n / 15) + 32) + 32 * (n % 15)) at) ∙
-          sym (ap (λ b. cond b (Some (recordSeen book n)) none) here);
+          sym (ap (λ b. cond b (Some (record-seen book n)) none) here);
       after = sym (ap (λ b. record { book = book; next = cond b (n + 1) n }) here);
     }

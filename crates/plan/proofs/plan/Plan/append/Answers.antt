@@ -7,8 +7,8 @@ use Rattle.std.specs.declared.option.Option.{Option}
 use Rattle.std.specs.declared.option.Option.the-variants.{Some, None}
 use Rattle.plan.proofs.Added.{full-test, room-test}
 use Rattle.plan.proofs.Listed.{tasks-are-count}
-use Rattle.plan.specs.Checks.{withTask}
-use Rattle.plan.specs.TaskSet.{taskSet, parameters}
+use Rattle.plan.specs.Checks.{with-task}
+use Rattle.plan.specs.TaskSet.{task-set, parameters}
 use Rattle.plan.specs.declared.plan.Plan.{Plan}
 use Rattle.plan.proofs.plan.Plan.append.Needs as need
 
@@ -18,8 +18,8 @@ returns-then-number-ge-ROWS c =
     let full = full-test p (c .if-number-ge-ROWS .taken) in
     let none : Option ℕ = None in
     record {
-      answer = sym (ap (λ b. cond b none (Some (length (taskSet p .tasks)))) full);
-      after = sym (ap (λ b. cond b (taskSet p) (withTask (taskSet p) (parameters (c .args .task)))) full);
+      answer = sym (ap (λ b. cond b none (Some (length (task-set p .tasks)))) full);
+      after = sym (ap (λ b. cond b (task-set p) (with-task (task-set p) (parameters (c .args .task)))) full);
       kept = λ _. refl;
     }
 
@@ -29,7 +29,7 @@ returns c =
     let room = room-test p (c .if-number-ge-ROWS .left) in
     let none : Option ℕ = None in
     record {
-      answer = ap Some (sym (tasks-are-count p)) ∙ sym (ap (λ b. cond b none (Some (length (taskSet p .tasks)))) room);
-      after = c .push .ensures ∙ sym (ap (λ b. cond b (taskSet p) (withTask (taskSet p) (parameters (c .args .task)))) room);
+      answer = ap Some (sym (tasks-are-count p)) ∙ sym (ap (λ b. cond b none (Some (length (task-set p .tasks)))) room);
+      after = c .push .ensures ∙ sym (ap (λ b. cond b (task-set p) (with-task (task-set p) (parameters (c .args .task)))) room);
       kept = λ e. absurd (true≢false e);
     }
