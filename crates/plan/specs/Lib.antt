@@ -2,4 +2,5 @@ pub mod Bounds
 pub mod Checks
 pub mod Laws
 pub mod Refusals
+pub mod Rounding
 pub mod TaskSet

@@ -2,8 +2,9 @@
 -- Assumes nothing.
 use mathlib.Core.List.{List, [], map}
 use mathlib.Core.Path.{_≡_}
-use Prim.Native.Nat.{ℕ, _+_, _-_, _*_, _/_}
+use Prim.Native.Nat.{ℕ, _*_}
 use lib.ListN.{take}
+use Rattle.plan.specs.Rounding.{ceil}
 use Rattle.plan.specs.declared.plan.Plan.{Plan}
 use Rattle.plan.specs.declared.task.Speed.{Speed}
 use Rattle.plan.specs.declared.task.Speed.the-variants.{High, Low}
@@ -45,17 +46,13 @@ task-set plan = record {
 abbrev pub empty : TaskSet
 empty = record { tasks = []; p = 1; q = 1 }
 
--- a divided by b, rounded up
-abbrev pub ceiling : ℕ → ℕ → ℕ
-ceiling a b = (a + (b - 1)) / b
-
 abbrev pub paced : Speed → ℕ → ℕ → ℕ
 paced High fast slow = fast
 paced Low fast slow = slow
 
 -- the work W of one job in ticks: C at high speed, C × p / q rounded up at low speed
 abbrev pub job-work : (p q : ℕ) → Parameters → ℕ
-job-work p q t = paced (t .speed) (t .work) (ceiling (t .work * p) q)
+job-work p q t = paced (t .speed) (t .work) (ceil (t .work * p) q)
 
 -- what two plans must share to be the same: the parameters without the speed
 pub record Timing : Type 0 where

@@ -18,8 +18,7 @@ impl Task {
         let fast = u32::from(self.work);
         match self.speed {
             Speed::High => fast,
-            Speed::Low => (fast * u32::from(ratio.p) + (u32::from(ratio.q) - 1))
-                / u32::from(ratio.q),
+            Speed::Low => (fast * u32::from(ratio.p)).div_ceil(u32::from(ratio.q)),
         }
     }
 }
