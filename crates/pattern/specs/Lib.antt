@@ -1,0 +1,5 @@
+pub mod Sum
+pub mod Policy
+pub mod Even
+pub mod Red
+pub mod Shifted
