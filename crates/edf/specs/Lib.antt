@@ -1,0 +1,17 @@
+pub mod System
+pub mod Tick
+pub mod Earliest
+pub mod Run
+pub mod Jobs
+pub mod Refusal
+pub mod Timeliness
+pub mod Service
+pub mod Reading
+pub mod Periodic
+pub mod Cycle
+pub mod Plans
+pub mod Admission
+pub mod Counting
+pub mod Meetings
+pub mod Mistakes
+pub mod Counted
