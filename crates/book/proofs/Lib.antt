@@ -3,6 +3,7 @@ pub mod Opened
 pub mod Readings
 pub mod Recorded
 pub mod Records
+pub mod Refused
 pub mod Rewritten
 pub mod Sound
 pub mod Sums

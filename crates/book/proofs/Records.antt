@@ -1,5 +1,5 @@
 -- A task's record read, and a record's task written. Assumes nothing.
-use mathlib.Core.Bool.{Bool, true, false, not, _||_}
+use mathlib.Core.Bool.{true, not, _||_}
 use mathlib.Core.List.{List}
 use mathlib.Core.Path.{_≡_, _∙_, refl, ap}
 use Prim.Native.Nat.{ℕ, _+_, _*_, _/_, _%_, _≤_}
@@ -8,8 +8,8 @@ use lib.Dec.{eqb, ltb}
 use lib.ListN.{drop}
 use Rattle.std.proofs.shelf.Tests.{le-ltb, ltb-false, ne-eqb, not-false, or-from}
 use Rattle.std.specs.Options.{orOther}
-use Rattle.std.specs.declared.option.Option.{Option}
 use Rattle.std.specs.declared.option.Option.the-variants.{None}
+use Rattle.book.proofs.Refused.{both-pass, goes-on, went-on}
 use Rattle.plan.specs.Bounds.{Timed, Constrained}
 use Rattle.plan.specs.Checks.{first-error, parameters-of, refuse-if, speed-of}
 use Rattle.plan.specs.TaskSet.{Parameters, paced}
@@ -17,7 +17,6 @@ use Rattle.plan.specs.declared.draft.Draft.{Draft}
 use Rattle.plan.specs.declared.fault.RecordError.the-variants.{Period, Deadline, Work, Constraint, SpeedOrRest}
 use Rattle.plan.specs.declared.task.Speed.{Speed}
 use Rattle.plan.specs.declared.task.Speed.the-variants.{High, Low}
-use Rattle.book.proofs.Sound.{both-pass}
 use Rattle.book.specs.Bytes.{all-zero, byte}
 use Rattle.book.specs.Reading.{draft-of, record-error}
 use Rattle.book.specs.Writing.{record-bytes}
@@ -52,14 +51,6 @@ draft-back t good = λ i. record {
   k = t .k;
   speed = paced (t .speed) 0 1;
 }
-
-module _ {E : Type 0} where
-  goes-on : {b : Bool} {rest : Option E} (e : E) → b ≡ false → rest ≡ None → refuse-if b e rest ≡ None
-  goes-on {b} {rest} e p q = ap (λ x. refuse-if x e rest) p ∙ q
-
-  went-on : (b : Bool) (e : E) (rest : Option E) → refuse-if b e rest ≡ None → (b ≡ false) × (rest ≡ None)
-  went-on true e rest p = let z : _≡_ {A = ℕ} 0 1 = cc in absurd (omega arith)
-  went-on false e rest p = (refl, p)
 
 in-bounds : (d : Draft) → Timed (d .period) (d .deadline) (d .work) → Constrained (d .m) (d .k) → d .speed ≤ 1 → first-error d ≡ None
 in-bounds d t k s =

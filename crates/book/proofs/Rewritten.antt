@@ -17,13 +17,14 @@ use Rattle.std.specs.Finite.{nth}
 use Rattle.std.specs.Options.{mapped}
 use Rattle.std.specs.declared.option.Option.{Option}
 use Rattle.std.specs.declared.option.Option.the-variants.{Some, None}
+use Rattle.book.proofs.Refused.{both-pass}
 use Rattle.plan.specs.Checks.{fault-at, parameters-of, speed-of}
 use Rattle.plan.specs.TaskSet.{TaskSet, paced}
 use Rattle.plan.specs.declared.fault.Place.the-variants as place
 use Rattle.book.proofs.Filled.{first-more}
 use Rattle.book.proofs.Opened.{lone-block}
 use Rattle.book.proofs.Records.{rest-passed, speed-passed}
-use Rattle.book.proofs.Sound.{Sound, both-pass, opened-is}
+use Rattle.book.proofs.Sound.{Sound, opened-is}
 use Rattle.book.proofs.Sums.{total-append, total-more, total-none}
 use Rattle.book.proofs.Turns.{byte-of-part, part-long, part-of-part, parts-in-turn, turn-same, zero-part, zeros-are-zero}
 use Rattle.book.proofs.Walked.{byte-of-block, first-count, lone-count, records-of-lone, records-of-two, second-count}

@@ -1,6 +1,6 @@
 -- A block passes its checks exactly if it is sound, and a book that passes has one or two sound blocks.
 -- Assumes nothing.
-use mathlib.Core.Bool.{Bool, true, false, cond, not}
+use mathlib.Core.Bool.{Bool, true, cond, not}
 use mathlib.Core.List.{List}
 use mathlib.Core.Logic.{_⊎_, inl, inr}
 use mathlib.Core.Path.{_≡_, _∙_, refl, sym, ap}
@@ -8,10 +8,11 @@ use Prim.Native.Nat.{ℕ, _+_, _*_, _%_}
 use native.Mathlib.Omega.{arith}
 use lib.Dec.{eqb}
 use lib.ListN.{length, drop}
-use Rattle.std.proofs.shelf.Tests.{and-parts, and-from, eqb-true, eq-eqb, ne-eqb, cases-eq}
+use Rattle.std.proofs.shelf.Tests.{and-parts, and-from, eqb-true, eq-eqb, ne-eqb, cases-eq, not-false}
 use Rattle.std.specs.Options.{orOther}
 use Rattle.std.specs.declared.option.Option.{Option}
 use Rattle.std.specs.declared.option.Option.the-variants.{Some, None}
+use Rattle.book.proofs.Refused.{both-pass, goes-on, went-on}
 use Rattle.plan.specs.Checks.{refuse-if}
 use Rattle.book.proofs.Opened.{open-at-512, open-at-1024}
 use Rattle.book.specs.Bytes.{byte, part, total, all-zero}
@@ -30,15 +31,10 @@ pub record Sound (block : List ℕ) (at blocks : ℕ) : Type 0 where
 
 module _ {E : Type 0} where
   passed : (b : Bool) (e : E) (rest : Option E) → refuse-if (not b) e rest ≡ None → (b ≡ true) × (rest ≡ None)
-  passed true e rest p = (refl, p)
-  passed false e rest p = let z : _≡_ {A = ℕ} 0 1 = cc in absurd (omega arith)
+  passed b e rest p = let w = went-on (not b) e rest p in (not-false b (w .0), w .1)
 
   passes : {b : Bool} {rest : Option E} (e : E) → b ≡ true → rest ≡ None → refuse-if (not b) e rest ≡ None
-  passes {b} {rest} e p q = ap (λ x. refuse-if (not x) e rest) p ∙ q
-
-  pub both-pass : (o p : Option E) → orOther o p ≡ None → (o ≡ None) × (p ≡ None)
-  both-pass None p e = (refl, e)
-  both-pass (Some x) p e = let z : _≡_ {A = ℕ} 0 1 = cc in absurd (omega arith)
+  passes e p q = goes-on e (ap not p) q
 
 module _ (block : List ℕ) (at blocks : ℕ) where
   pub passed-is-sound : block-fault block at blocks ≡ None → Sound block at blocks

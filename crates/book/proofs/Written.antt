@@ -1,6 +1,6 @@
 -- The book of a plan is accepted, and holds the plan's task set. Assumes nothing.
 use mathlib.Core.Bool.{true, cond}
-use mathlib.Core.List.{List, [], _∷_, _++_, map}
+use mathlib.Core.List.{List, _++_}
 use mathlib.Core.Logic.{inl, inr}
 use mathlib.Core.Path.{_≡_, _∙_, refl, sym, ap, subst}
 use Prim.Native.Nat.{ℕ, zero, suc, _+_, _*_, _/_, _%_, _<_, _≤_}
@@ -15,14 +15,13 @@ use Rattle.std.proofs.shelf.Tests.{and-from, cases-lt, eq-eqb, le-leb, le-ltb, 
 use Rattle.std.specs.Finite.{nth}
 use Rattle.std.specs.Options.{mapped, orOther}
 use Rattle.std.specs.declared.option.Option.the-variants.{Some, None}
+use Rattle.plan.specs.Bounded.{Bounded, absent, task}
 use Rattle.plan.specs.Bounds.{Geared}
 use Rattle.plan.specs.Checks.{fault-at, out-of-gear, parameters-of}
-use Rattle.plan.proofs.Listed.{tasks-are-count}
-use Rattle.plan.specs.TaskSet.{Parameters, TaskSet, parameters, task-set}
+use Rattle.plan.proofs.Bounding.{plan-is-bounded}
+use Rattle.plan.specs.TaskSet.{Parameters, TaskSet, task-set}
 use Rattle.plan.specs.declared.fault.Place.the-variants as place
 use Rattle.plan.specs.declared.plan.Plan.{Plan}
-use Rattle.plan.specs.declared.task.Speed.the-variants.{High}
-use Rattle.plan.specs.declared.task.Task.{Task}
 use Rattle.book.proofs.Opened.{lone-block, open-at-512, open-at-1024}
 use Rattle.book.proofs.Readings.{accepted}
 use Rattle.book.proofs.Records.{Good, record-passes, task-back}
@@ -35,12 +34,6 @@ use Rattle.book.specs.Bytes.{all-zero, byte, bytes32, part, total, word32}
 use Rattle.book.specs.Reading.{block-fault, block-of, count-fits, draft-of, fault-of, first-fault, open-fault, ratio-fits, record-at, record-fault, records, task-at, tasks-of}
 use Rattle.book.specs.RoundTrip.{Reads-as}
 use Rattle.book.specs.Writing.{block-bytes, blocks-for, check-of, encoded, head-of, in-turn, over, record-bytes, records-of, slot, slot-at, used}
-
--- What every plan's task set keeps.
-pub record Orderly (set : TaskSet) : Type 0 where
-  pub few : length (set .tasks) ≤ 30
-  pub geared : Geared (set .p) (set .q)
-  pub good : (i : ℕ) (t : Parameters) → nth (set .tasks) i ≡ Some t → Good t
 
 each-slot : (set : TaskSet) (i r : ℕ) → length (slot-at set i r) ≡ 32
 each-slot set i r = slot-long (nth (set .tasks) (15 * i + r))
@@ -108,13 +101,9 @@ in-gear : (p q : ℕ) → Geared p q → ratio-fits p q 0 ≡ true
 in-gear p q g =
     not-from-false (out-of-gear p q) (or-from (eqb q 0) _ (ne-eqb q 0 (λ e. omega arith)) (or-from (ltb p q) _ (le-ltb p q (omega arith)) (le-ltb 16 p (omega arith))))
 
--- stands where a list of tasks has none
-spare : Parameters
-spare = record { period = 1; deadline = 1; work = 1; m = 1; k = 1; speed = High }
-
 -- The whole book.
 
-module _ (set : TaskSet) (o : Orderly set) where
+module _ (set : TaskSet) (o : Bounded set) where
   pub N : ℕ
   N = length (set .tasks)
 
@@ -219,23 +208,30 @@ module _ (set : TaskSet) (o : Orderly set) where
       ]
 
   module _ (n : ℕ) (t : Parameters) (below : n < N) (here : nth (set .tasks) n ≡ Some t) where
+    good : Good t
+    unfolding N
+    good =
+        let listed : nth (set .tasks) n ≡ Some (task set n) = nth-getD (set .tasks) n absent below in
+        let same : task set n ≡ t = cc in
+        subst Good same (record { timed = o .timed n below; constrained = o .constrained n below })
+
     bytes-of : record-at book n ≡ record-bytes t
     bytes-of = slot-of n below ∙ ap slot here
 
     pub task-of : task-at book n ≡ t
-    task-of = ap (λ b. parameters-of (draft-of b)) bytes-of ∙ task-back t (o .good n t here)
+    task-of = ap (λ b. parameters-of (draft-of b)) bytes-of ∙ task-back t good
 
     pub no-fault : fault-of book n ≡ None
     no-fault =
         ap (λ b. record-fault b (place.Record (n / 15) (n % 15))) bytes-of ∙
-        ap (mapped (fault-at (place.Record (n / 15) (n % 15)))) (record-passes t (o .good n t here))
+        ap (mapped (fault-at (place.Record (n / 15) (n % 15)))) (record-passes t good)
 
   clean : (n : ℕ) → n ≤ N → first-fault book n ≡ None
   unfolding N first-fault
   clean zero most = refl
   clean (suc n) most =
       ap (λ x. orOther x (fault-of book n)) (clean n (omega arith)) ∙
-      no-fault n (getD (set .tasks) n spare) (omega arith) (nth-getD (set .tasks) n spare (omega arith))
+      no-fault n (task set n) (omega arith) (nth-getD (set .tasks) n absent (omega arith))
 
   tasks-back : tasks-of book N ≡ set .tasks
   unfolding N
@@ -271,28 +267,9 @@ module _ (set : TaskSet) (o : Orderly set) where
     };
   }
 
--- Every plan's.
-
-from-row : (xs : List Task) (i : ℕ) (t : Parameters) → nth (map parameters xs) i ≡ Some t → (x : Task) × (parameters x ≡ t)
-from-row [] i t e = let z : _≡_ {A = ℕ} 0 1 = cc in absurd (omega arith)
-from-row (x ∷ xs) zero t e = (x, cc)
-from-row (x ∷ xs) (suc i) t e = from-row xs i t e
-
-task-is-good : (x : Task) → Good (parameters x)
-task-is-good x = record { timed = x .timed; constrained = x .constrained }
-
-pub orderly : (plan : Plan) → Orderly (task-set plan)
-orderly plan = record {
-  few = omega (arith, tasks-are-count plan, plan .few);
-  geared = plan .ratio .geared;
-  good = λ i t e.
-      let row = from-row (take (plan .count) (plan .rows)) i t e in
-      subst Good (row .1) (task-is-good (row .0));
-}
-
 -- what is left in a buffer after a plan's book was written into it
 pub buffer-reads-back : (plan : Plan) (B : List ℕ) (n : ℕ) → n ≡ 512 * blocks-for (task-set plan) → Reads-as (take n (over B 0 (encoded (task-set plan)))) (task-set plan)
 buffer-reads-back plan B n size =
     let front : take n (over B 0 (encoded (task-set plan))) ≡ encoded (task-set plan) =
     take-at (encoded (task-set plan)) (drop (0 + length (encoded (task-set plan))) B) n (book-long (task-set plan) ∙ sym size) in
-    subst (λ b. Reads-as b (task-set plan)) (sym front) (reads-back (task-set plan) (orderly plan))
+    subst (λ b. Reads-as b (task-set plan)) (sym front) (reads-back (task-set plan) (plan-is-bounded plan))

@@ -1,6 +1,4 @@
 // Plans and books that the tests use.
-use book::fault::BookFault;
-use book::writer::write;
 use plan::draft::Draft;
 use plan::fault::Account;
 use plan::fault::Layer;
@@ -19,9 +17,6 @@ pub const GOOD: Draft = Draft {
     speed: 0,
 };
 
-// Longer than every book; the bytes after a book are to stay 0xAA.
-pub const ROOM: usize = 1100;
-
 // A plan of so many tasks, no two alike, every second one at low speed.
 pub fn plan_of(count: u8) -> Result<Plan, PlanFault> {
     let mut plan = Plan::new();
@@ -38,14 +33,6 @@ pub fn plan_of(count: u8) -> Result<Plan, PlanFault> {
         })?;
     }
     Ok(plan)
-}
-
-pub fn book_of(count: u8) -> Result<[u8; 1100], BookFault> {
-    let mut bytes = [0xAA; 1100];
-    if let Ok(plan) = plan_of(count) {
-        write(&plan, &mut bytes)?;
-    }
-    Ok(bytes)
 }
 
 fn same_task(a: &Task, b: &Task) -> bool {

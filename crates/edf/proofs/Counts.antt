@@ -18,7 +18,8 @@ use Rattle.pattern.proofs.Policies.{enough-anywhere}
 use Rattle.edf.specs.System.{Timetable, is, service}
 use Rattle.edf.specs.Run.{Reports, who}
 use Rattle.edf.specs.Jobs.{Belongs, reported}
-use Rattle.edf.specs.Plans.{Bounded, count, task, T, D, W, job-deadline, marked, system}
+use Rattle.plan.specs.Bounded.{Bounded, count, task}
+use Rattle.edf.specs.Plans.{T, D, W, job-deadline, marked, system}
 use Rattle.edf.specs.Admission.{Fits}
 use Rattle.edf.specs.Counting.{belongs, ticks-of, report-for, reported-done, job-met, Answered, Mandatory-jobs-met, Enough-jobs-met, Ticks-go-to-marked-jobs, Jobs-get-at-most-their-work, Reports-come-in-time}
 use Rattle.pattern.proofs.Sums.{sum-same}

@@ -15,7 +15,8 @@ use Rattle.pattern.proofs.Shifts.{shifted-lawful}
 use Rattle.edf.specs.System.{Exceeds, Timetable}
 use Rattle.edf.specs.Refusal.{start-below, refused}
 use Rattle.edf.specs.Cycle.{gcd-in, cycle}
-use Rattle.edf.specs.Plans.{Bounded, system}
+use Rattle.plan.specs.Bounded.{Bounded}
+use Rattle.edf.specs.Plans.{system}
 use Rattle.edf.specs.Admission.{Cycle-of, Overloaded-span, Serves-jobs, work-of-span}
 use Rattle.edf.specs.Meetings.{halves, overloaded, Refused-with}
 use Rattle.edf.specs.Mistakes.{Fits-from-0, Hurried-tests-mislead}

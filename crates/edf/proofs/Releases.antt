@@ -1,50 +1,28 @@
 -- The releases of a plan are those of its marked jobs, so the jobs may be counted tick by tick.
-use Prim.Native.Nat.{ℕ, zero, suc, _+_, _-_, _*_, _/_, _%_, _<_, _≤_}
+use Prim.Native.Nat.{ℕ, _+_, _-_, _*_, _/_, _%_, _<_, _≤_}
 use mathlib.Core.Path.{_≡_, ap, ap₂, sym, _∙_, fun-ext}
 use mathlib.Core.Bool.{Bool, true, false, cond, _&&_}
-use mathlib.Core.List.{List, [], _∷_, map}
 use mathlib.Core.Logic.{⊎-elim}
 use native.Mathlib.Omega.{arith}
-use native.Mathlib.Nat.{not-suc-le-zero, mul-mod-left, mul-div-left, div-add-mod', lt-of-mul-lt-mul-right, mul-le-mul-right, mul-le-mul-left}
+use native.Mathlib.Nat.{mul-mod-left, mul-div-left, div-add-mod', lt-of-mul-lt-mul-right, mul-le-mul-right, mul-le-mul-left}
 use lib.Dec.{leb, eqb}
-use lib.ListN.{length, getD, take}
 use Rattle.std.proofs.shelf.Bits.{mul-le, le-div}
 use Rattle.std.proofs.shelf.Ways.{tells}
 use Rattle.std.proofs.shelf.Tests.{cases-lt, eqb-true, and-parts, ne-eqb, cond-true}
-use Rattle.plan.specs.Bounds.{Timed, Constrained}
 use Rattle.plan.specs.Rounding.{ceil}
-use Rattle.plan.specs.TaskSet.{TaskSet, parameters, paced}
+use Rattle.plan.specs.TaskSet.{TaskSet, paced}
 use Rattle.plan.specs.declared.task.Speed.{Speed}
 use Rattle.plan.specs.declared.task.Speed.the-variants.{High, Low}
-use Rattle.plan.specs.declared.task.Task.{Task}
-use Rattle.plan.proofs.Listed.{tasks-are-count}
 use Rattle.pattern.specs.Sum.{Sum}
 use Rattle.pattern.specs.Policy.{Meaning, in-range, mandatory}
 use Rattle.pattern.proofs.Policies.{enough-anywhere}
 use Rattle.pattern.proofs.Ranges.{in-range-from}
 use Rattle.edf.specs.System.{work-due, service, span-work}
-use Rattle.edf.specs.Plans.{Bounded, absent, count, task, T, D, W, marked, released, system, Plan-is-bounded, Plan-work-in-range, Plan-is-sound}
+use Rattle.plan.specs.Bounded.{Bounded, count, task}
+use Rattle.edf.specs.Plans.{T, D, W, marked, released, system, Plan-work-in-range, Plan-is-sound}
 use Rattle.edf.specs.Admission.{falls-within, work-of-span, Plan-work-by-jobs, Plan-overworked, Plan-serves-by-jobs}
 use Rattle.pattern.proofs.Sums.{sum-same}
 use Rattle.edf.proofs.Sums.{sum-none, sum-term, sum-some, sum-from, sum-swaps, sum-multiples}
-
--- a row of a plan keeps the bounds of a task
-rows-keep : (rows : List Task) (n i : ℕ) → i < length (map parameters (take n rows)) →
-    let t = getD (map parameters (take n rows)) i absent in
-    Timed (t .period) (t .deadline) (t .work) × Constrained (t .m) (t .k)
-rows-keep [] zero i h = absurd (not-suc-le-zero h)
-rows-keep [] (suc n) i h = absurd (not-suc-le-zero h)
-rows-keep (t ∷ rows) zero i h = absurd (not-suc-le-zero h)
-rows-keep (t ∷ rows) (suc n) zero h = (t .timed, t .constrained)
-rows-keep (t ∷ rows) (suc n) (suc i) h = rows-keep rows n i (omega arith)
-
-pub plan-is-bounded : Plan-is-bounded
-plan-is-bounded plan = record {
-  few = omega (arith, tasks-are-count plan, plan .few);
-  timed = λ i h. rows-keep (plan .rows) (plan .count) i h .0;
-  constrained = λ i h. rows-keep (plan .rows) (plan .count) i h .1;
-  geared = plan .ratio .geared;
-}
 
 pub plan-work-in-range : Plan-work-in-range
 plan-work-in-range set bounded i here =

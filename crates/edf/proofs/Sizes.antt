@@ -13,7 +13,8 @@ use Rattle.plan.specs.TaskSet.{TaskSet}
 use Rattle.pattern.specs.Sum.{Sum}
 use Rattle.pattern.specs.Policy.{Meaning}
 use Rattle.edf.specs.System.{System, Sound, Exceeds, Overloaded, work-due, due, span-work}
-use Rattle.edf.specs.Plans.{Bounded, count, task, T, L, W, system}
+use Rattle.plan.specs.Bounded.{Bounded, count, task}
+use Rattle.edf.specs.Plans.{T, L, W, system}
 use Rattle.edf.specs.Admission.{work-of-span, Overloaded-span, Plan-sizes}
 use Rattle.edf.proofs.Sums.{sum-le, sum-none, sum-plus, sum-swaps, sum-at-most}
 use Rattle.edf.proofs.Releases.{plan-is-sound, plan-work-in-range, works-agree}

@@ -16,7 +16,8 @@ use Rattle.edf.specs.Tick.{move-on}
 use Rattle.edf.specs.Run.{silent, Misses}
 use Rattle.edf.specs.Refusal.{First-excess, refused, start-below}
 use Rattle.edf.specs.Cycle.{cycle}
-use Rattle.edf.specs.Plans.{Bounded, count, task, T, D, L, marked, released, system}
+use Rattle.plan.specs.Bounded.{Bounded, count, task}
+use Rattle.edf.specs.Plans.{T, D, L, marked, released, system}
 use Rattle.edf.specs.Admission.{repetition, Cycle-of, Fits, Plan-cycle-found, Plan-is-periodic, Plan-serves-iff-fits, Plan-never-late, Plan-position-tells-releases, Plan-tick-by-position, Plan-one-cycle-is-enough, Plan-cycle-run-decides, Plan-cycle-ends-empty, Plan-run-repeats}
 use Rattle.edf.proofs.Multiples.{cycle-found}
 use Rattle.edf.proofs.Locality.{tick-reads}

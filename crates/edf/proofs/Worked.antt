@@ -18,7 +18,8 @@ use Rattle.edf.specs.Tick.{tick, move-on}
 use Rattle.edf.specs.Run.{silent, trace, who}
 use Rattle.edf.specs.Refusal.{Span, start-below, refused}
 use Rattle.edf.specs.Cycle.{gcd-in, cycle}
-use Rattle.edf.specs.Plans.{Bounded, count, task, W, released, system}
+use Rattle.plan.specs.Bounded.{Bounded, count, task}
+use Rattle.edf.specs.Plans.{W, released, system}
 use Rattle.edf.specs.Admission.{repetition, Cycle-of, cycle-of, work-of-span}
 use Rattle.edf.specs.Meetings.{Step, blank, answer, Stepped, Meeting, row, accepted, overloaded, stepped, Plan-of, Holds, meetings, Worked-meetings-hold}
 use Rattle.edf.specs.Mistakes.{mistakes, Classic-mistakes-shown}

@@ -16,7 +16,8 @@ use Rattle.edf.specs.Reading.{Same-below, Same-answer}
 use Rattle.edf.specs.Refusal.{First-excess, refused, start-below}
 use Rattle.edf.specs.Periodic.{Periodic}
 use Rattle.edf.specs.Cycle.{Cycle, Common, cycle}
-use Rattle.edf.specs.Plans.{Bounded, count, T, D, W, L, job-release, job-deadline, marked, released, system}
+use Rattle.plan.specs.Bounded.{Bounded, count}
+use Rattle.edf.specs.Plans.{T, D, W, L, job-release, job-deadline, marked, released, system}
 
 module _ (set : TaskSet) (policy : Meaning) where
   -- The ticks after which the releases and marks of task i repeat.

@@ -11,7 +11,8 @@ use Rattle.pattern.specs.Sum.{Sum}
 use Rattle.pattern.specs.Policy.{Meaning, Lawful}
 use Rattle.edf.specs.System.{Timetable, is}
 use Rattle.edf.specs.Run.{Reports, Proper, who}
-use Rattle.edf.specs.Plans.{Bounded, count, task, T, W, job-deadline, marked, system}
+use Rattle.plan.specs.Bounded.{Bounded, count, task}
+use Rattle.edf.specs.Plans.{T, W, job-deadline, marked, system}
 use Rattle.edf.specs.Admission.{Fits}
 
 -- `served n` is whom tick n served, and `told n` the task of the done report accepted between ticks n and n + 1, if any.

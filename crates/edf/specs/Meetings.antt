@@ -16,7 +16,8 @@ use Rattle.pattern.specs.Red.{red}
 use Rattle.pattern.specs.Shifted.{shifted}
 use Rattle.edf.specs.Tick.{Answer, tick, move-on}
 use Rattle.edf.specs.Run.{silent, trace, who}
-use Rattle.edf.specs.Plans.{Bounded, count, W, released, system}
+use Rattle.plan.specs.Bounded.{Bounded, count}
+use Rattle.edf.specs.Plans.{W, released, system}
 use Rattle.edf.specs.Admission.{Cycle-of, Fits, Refused-span, work-of-span}
 
 -- A task (T,D,C,m,k) at high speed, and one at low speed.

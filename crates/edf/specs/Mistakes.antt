@@ -8,7 +8,8 @@ use Rattle.pattern.specs.Policy.{Meaning, Lawful}
 use Rattle.pattern.specs.Even.{even}
 use Rattle.pattern.specs.Shifted.{shifted}
 use Rattle.edf.specs.System.{Timetable}
-use Rattle.edf.specs.Plans.{Bounded, count, task, T, W}
+use Rattle.plan.specs.Bounded.{Bounded, count, task}
+use Rattle.edf.specs.Plans.{T, W}
 use Rattle.edf.specs.Admission.{Overloaded-span, Serves-jobs}
 use Rattle.edf.specs.Meetings.{Meeting, row, accepted, overloaded, Holds, high, low, plain, geared, A, B, halves}
 

@@ -3,35 +3,22 @@
 use Prim.Native.Nat.{ℕ, _+_, _*_, _/_, _%_, _<_, _≤_}
 use mathlib.Core.Bool.{Bool, _&&_}
 use lib.Dec.{eqb}
-use lib.ListN.{length, getD}
-use Rattle.plan.specs.Bounds.{Timed, Constrained, Geared}
-use Rattle.plan.specs.TaskSet.{Parameters, TaskSet, task-set, job-work}
-use Rattle.plan.specs.declared.plan.Plan.{Plan}
-use Rattle.plan.specs.declared.task.Speed.the-variants.{High}
+use lib.ListN.{length}
+use Rattle.plan.specs.Bounded.{Bounded, count, task}
+use Rattle.plan.specs.TaskSet.{TaskSet, job-work}
 use Rattle.pattern.specs.Policy.{Meaning, mandatory}
 use Rattle.edf.specs.System.{System, Sound}
 
--- Stands where a list has no task; nothing is said of it.
-abbrev pub absent : Parameters
-absent = record { period = 0; deadline = 0; work = 0; m = 0; k = 0; speed = High }
-
 module _ (set : TaskSet) where
-  -- The tasks are 0 to count − 1.
-  abbrev pub count : ℕ
-  count = length (set .tasks)
-
-  abbrev pub task : (i : ℕ) → Parameters
-  task i = getD (set .tasks) i absent
-
   -- Period and deadline of task i, and the work of a job of it, in ticks.
   abbrev pub T : (i : ℕ) → ℕ
-  T i = task i .period
+  T i = task set i .period
 
   abbrev pub D : (i : ℕ) → ℕ
-  D i = task i .deadline
+  D i = task set i .deadline
 
   abbrev pub W : (i : ℕ) → ℕ
-  W i = job-work (set .p) (set .q) (task i)
+  W i = job-work (set .p) (set .q) (task set i)
 
   -- Job j of task i is released at tick j × T, and its deadline is j × T + D.
   abbrev pub job-release : (i j : ℕ) → ℕ
@@ -39,13 +26,6 @@ module _ (set : TaskSet) where
 
   abbrev pub job-deadline : (i j : ℕ) → ℕ
   job-deadline i j = job-release i j + D i
-
-  -- The bounds that every plan keeps: at most 30 tasks, each 1 ≤ C ≤ D ≤ T ≤ 65,535 and 1 ≤ m ≤ k ≤ 32, and 1 ≤ q ≤ p ≤ 16.
-  pub record Bounded : Type 0 where
-    pub few : count ≤ 30
-    pub timed : (i : ℕ) → i < count → Timed (task i .period) (task i .deadline) (task i .work)
-    pub constrained : (i : ℕ) → i < count → Constrained (task i .m) (task i .k)
-    pub geared : Geared (set .p) (set .q)
 
 module _ (set : TaskSet) (policy : Meaning) where
   -- The policy's length for task i, after which its marks repeat.
@@ -62,9 +42,6 @@ module _ (set : TaskSet) (policy : Meaning) where
 
   abbrev pub system : System
   system = record { count = count set; deadline = D set; work = W set; releases = released }
-
-abbrev pub Plan-is-bounded : Type 0
-Plan-is-bounded = (plan : Plan) → Bounded (task-set plan)
 
 -- The work of a job is 1 to 1,048,560 ticks.
 abbrev pub Plan-work-in-range : Type 0

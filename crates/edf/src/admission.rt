@@ -1,11 +1,6 @@
 // What is true of every plan and policy: its cycle, the timetables that serve it, and what decides whether one does.
-ghost use Rattle.edf.specs.Plans.{Plan-is-bounded, Plan-work-in-range, Plan-is-sound};
+ghost use Rattle.edf.specs.Plans.{Plan-work-in-range, Plan-is-sound};
 ghost use Rattle.edf.specs.Admission.{Plan-cycle-found, Plan-is-periodic, Plan-work-by-jobs, Plan-overworked, Plan-sizes, Plan-serves-by-jobs, Plan-serves-iff-fits, Plan-never-late, Plan-position-tells-releases, Plan-tick-by-position, Plan-one-cycle-is-enough, Plan-cycle-run-decides, Plan-cycle-ends-empty, Plan-run-repeats};
-
-// Every plan keeps the bounds.
-pub fn plan_is_bounded()
-    ensures { λ _. ⌜ Plan-is-bounded ⌝ }
-{}
 
 // The work of a job is 1 to 1,048,560 ticks.
 pub fn plan_work_in_range()

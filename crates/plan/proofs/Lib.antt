@@ -1,4 +1,5 @@
 pub mod Added
 pub mod Answered
+pub mod Bounding
 pub mod Compared
 pub mod Listed

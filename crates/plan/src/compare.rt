@@ -2,7 +2,6 @@
 // Neither the speeds nor the ratio count.
 ghost use mathlib.Core.Path.{_≡_};
 ghost use Rattle.std.specs.Orderings.{Decides};
-ghost use Rattle.plan.specs.Laws.{Same-is-an-equivalence};
 ghost use Rattle.plan.specs.TaskSet.{Same, task-set, parameters, timing};
 use super::plan::Plan;
 use super::task::Task;
@@ -34,8 +33,3 @@ impl Plan {
         true
     }
 }
-
-// Being the same is reflexive, symmetric and transitive.
-pub fn same_is_an_equivalence()
-    ensures { λ _. ⌜ Same-is-an-equivalence ⌝ }
-{}

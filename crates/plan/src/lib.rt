@@ -6,3 +6,4 @@ pub mod fault;
 pub mod plan;
 pub mod rows;
 pub mod task;
+pub mod theorems;

@@ -1,5 +1,5 @@
 use mathlib.Core.Path.{refl, sym, _∙_}
-use Rattle.plan.proofs.compare.same_is_an_equivalence.Needs as need
+use Rattle.plan.proofs.theorems.same_is_an_equivalence.Needs as need
 
 pub returns : need.returns
 returns c = record {
