@@ -9,6 +9,6 @@ Timed period deadline work = (1 ≤ work) × (work ≤ deadline) × (deadline �
 abbrev pub Constrained : (m k : ℕ) → Type 0
 Constrained m k = (1 ≤ m) × (m ≤ k) × (k ≤ 32)
 
--- 1 ≤ q ≤ p ≤ 16, for the ratio p/q of the high speed to the low one
+-- 1 ≤ q ≤ p ≤ 16, for the ratio p/q: a job takes p/q times as long at low speed
 abbrev pub Geared : (p q : ℕ) → Type 0
 Geared p q = (1 ≤ q) × (q ≤ p) × (p ≤ 16)

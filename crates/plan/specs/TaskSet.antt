@@ -19,7 +19,7 @@ pub record Parameters : Type 0 where
   pub k : ℕ
   pub speed : Speed
 
--- the tasks of a plan in the order of their numbers, and the ratio p/q of the high speed to the low one
+-- the tasks of a plan in the order of their numbers, and the ratio p/q: a job takes p/q times as long at low speed
 pub record TaskSet : Type 0 where
   pub tasks : List Parameters
   pub p : ℕ

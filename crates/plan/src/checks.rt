@@ -118,7 +118,7 @@ impl Plan {
         self.count += 1;
     }
 
-    // Sets the ratio p/q of the high speed to the low one.
+    // Sets the ratio p/q: a job takes p/q times as long at low speed.
     pub fn set_ratio(&mut self, p: u8, q: u8) -> Result<(), PlanFault>
         ensures answer { λ r. ⌜ r ≡ answer (ratio-fault p q) tt ⌝ }
         ensures after { λ _. ⌜ task-set (now (self .exit)) ≡ left (ratio-fault p q) (with-ratio (task-set (now (self .entry))) p q) (task-set (now (self .entry))) ⌝ }

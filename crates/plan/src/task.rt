@@ -21,7 +21,7 @@ pub struct Task {
     ghost constrained: { Constrained m k },
 }
 
-// The high speed is p/q times the low one.
+// A job takes p/q times as long at low speed as at high speed.
 #[derive(Clone, Copy)]
 pub struct Ratio {
     pub p: u8,
