@@ -1,4 +1,6 @@
 // Admission: the cycle of a plan under a policy, and the verdict whether its mandatory jobs can all be served.
+#![tactic(auto)]
+
 pub mod admit;
 mod cycle;
 mod misses;

@@ -1,4 +1,6 @@
 // Tests of admission: the worked meetings, classic mistakes, cycles at the limit, and refused spans that start late.
+#![tactic(auto)]
+
 #[cfg(test)]
 mod cycles;
 #[cfg(test)]

@@ -1,4 +1,6 @@
 // Pattern policies: which jobs of a task are mandatory under an (m,k) constraint.
+#![tactic(auto)]
+
 pub mod even;
 pub mod policy;
 pub mod red;

@@ -1,4 +1,5 @@
 // Tests of the pattern policies: the worked patterns, every (m,k) against another way to find the marks, and the edges of what may be asked.
+#![tactic(auto)]
 
 #[cfg(test)]
 mod tests {

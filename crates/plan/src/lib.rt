@@ -1,4 +1,6 @@
 // Plans of a terminal: tasks that keep their bounds by their type, and refusals that say why.
+#![tactic(auto)]
+
 pub mod checks;
 pub mod compare;
 pub mod draft;

@@ -1,4 +1,6 @@
 // The runner: what it is asked and answers, its rules, and its whole promise.
+#![tactic(auto)]
+
 mod board;
 pub mod call;
 pub mod calls;

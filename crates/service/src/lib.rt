@@ -1,4 +1,6 @@
 // One tick of service, step by step: what is left of each task's open job, and what a tick makes of it.
+#![tactic(auto)]
+
 pub mod backlog;
 pub mod choice;
 pub mod releases;

@@ -1,5 +1,7 @@
 // The day of a betting terminal: the office makes its plan and writes the book, the terminal reads it and goes
 // through it, and then damaged copies of the book and slips of the firmware are refused, each for its reason.
+#![tactic(auto)]
+
 mod damage;
 mod firmware;
 mod office;

@@ -27,12 +27,12 @@ returns-then-number-ge-ROWS c =
       kept = λ _. refl;
     }
 
-pub returns-in-err-task : goal.returns-in-err-task
+pub returns-in_err-task : goal.returns-in_err-task
 unfolding new
-returns-in-err-task c =
+returns-in_err-task c =
     let p : Plan = c.args.self.now in
-    let exit = err_from_is_err_and c.from-residual.result c.from-residual.ensures.1 in
-    let record-refused = fault_of_err (record_fault c.args.draft (place.Task p.count)) (parameters_of c.args.draft) _ c.in-err-task.ensures in
+    let exit = err_from_is_err_and c.from_residual.result c.from_residual.ensures.1 in
+    let record-refused = fault_of_err (record_fault c.args.draft (place.Task p.count)) (parameters_of c.args.draft) _ c.in_err-task.ensures in
     let refused = room_leaves_the_record p c.args.draft c.if-number-ge-ROWS.false ∙ ap (option_map in_plan) record-refused in
     record {
       answer = exit.1 ∙ ap Err exit.2 ∙ answer_refused _ refused;
@@ -44,9 +44,9 @@ pub returns : goal.returns
 unfolding new
 returns c =
     let p : Plan = c.args.self.now in
-    let record-passed = fault_of_ok (record_fault c.args.draft (place.Task p.count)) (parameters_of c.args.draft) _ c.in-ok-task.ensures in
+    let record-passed = fault_of_ok (record_fault c.args.draft (place.Task p.count)) (parameters_of c.args.draft) _ c.in_ok-task.ensures in
     let accepted = room_leaves_the_record p c.args.draft c.if-number-ge-ROWS.false ∙ ap (option_map in_plan) record-passed in
-    let value = value_of_ok (record_fault c.args.draft (place.Task p.count)) (parameters_of c.args.draft) _ c.in-ok-task.ensures in
+    let value = value_of_ok (record_fault c.args.draft (place.Task p.count)) (parameters_of c.args.draft) _ c.in_ok-task.ensures in
     record {
       answer = ap Ok (sym (tasks_are_count p)) ∙ answer_accepted _ accepted;
       after = c.push.ensures ∙ ap (with_task (task_set p)) value ∙ left_accepted (new p c.args.draft) (task_set p) accepted;

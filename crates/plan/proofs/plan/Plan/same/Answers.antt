@@ -7,15 +7,15 @@ pub returns-then-self-other : goal.returns-then-self-other
 returns-then-self-other c =
     (λ e. absurd (false≢true e), λ same. absurd (c.if-self-other.true (same_counts c.args.self.now c.args.other.now same)))
 
-pub returns-then-not-same-timing : goal.returns-then-not-same-timing
-returns-then-not-same-timing c = (
+pub returns-then-not-same_timing : goal.returns-then-not-same_timing
+returns-then-not-same_timing c = (
   λ e. absurd (false≢true e),
-  λ same. absurd (both_ways c.same-timing.result c.if-not-same-timing.true
-      (c.same-timing.ensures.1 (same_at c.args.self.now c.args.other.now c.loop-i.i c.index-self-i.result c.index-other-i.result same c.loop-i-test.true))),
+  λ same. absurd (both_ways c.same_timing.result c.if-not-same_timing.true
+      (c.same_timing.ensures.1 (same_at c.args.self.now c.args.other.now c.loop-i.i c.index-self-i.result c.index-other-i.result same c.loop-i-test.true))),
 )
 
 pub loop-i-preserved : goal.loop-i-preserved
 loop-i-preserved c =
     agree_more c.args.self.now c.args.other.now c.loop-i.i c.index-self-i.result c.index-other-i.result
     c.loop-i-test.true (omega arith) c.loop-i.invariant
-    (c.same-timing.ensures.0 c.if-not-same-timing.false)
+    (c.same_timing.ensures.0 c.if-not-same_timing.false)
