@@ -6,17 +6,17 @@ pub returns-then-sum-ne0 : goal.returns-then-sum-ne0
 unfolding block_fault
 returns-then-sum-ne0 c = search rules
 
-pub returns-then-not-head-fits : goal.returns-then-not-head-fits
+pub returns-then-not-head_fits : goal.returns-then-not-head_fits
 unfolding block_fault
-returns-then-not-head-fits c = search rules
+returns-then-not-head_fits c = search rules
 
-pub returns-then-not-count-fits : goal.returns-then-not-count-fits
+pub returns-then-not-count_fits : goal.returns-then-not-count_fits
 unfolding block_fault
-returns-then-not-count-fits c = search rules
+returns-then-not-count_fits c = search rules
 
-pub returns-then-not-ratio-fits : goal.returns-then-not-ratio-fits
+pub returns-then-not-ratio_fits : goal.returns-then-not-ratio_fits
 unfolding block_fault
-returns-then-not-ratio-fits c = search rules
+returns-then-not-ratio_fits c = search rules
 
 pub returns : goal.returns
 unfolding block_fault

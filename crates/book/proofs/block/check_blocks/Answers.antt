@@ -8,18 +8,18 @@ use Rattle.book.specs.Reading.{block_fault, block_of}
 use Rattle.book.proofs.block.check_blocks.Goals as goal
 
 pub returns-in-512 : goal.returns-in-512
-returns-in-512 c = c.check-block.ensures ∙ sym (ap (λ o. answer o tt) (open_at_512 c.args.book.now c.in-512.is))
+returns-in-512 c = c.check_block.ensures ∙ sym (ap (λ o. answer o tt) (open_at_512 c.args.book.now c.in-512.is))
 
-pub returns-in-err-check-block : goal.returns-in-err-check-block
-returns-in-err-check-block c =
+pub returns-in_err-check_block-in-1024 : goal.returns-in_err-check_block-in-1024
+returns-in_err-check_block-in-1024 c =
     let book = c.args.book.now in
-    let exit = err_from_is_err_and c.from-residual.result c.from-residual.ensures.1 in
-    let refused = fault_of_err (block_fault (block_of book 0) 0 2) tt _ c.in-err-check-block.ensures in
+    let exit = err_from_is_err_and c.from_residual.result c.from_residual.ensures.1 in
+    let refused = fault_of_err (block_fault (block_of book 0) 0 2) tt _ c.in_err-check_block-in-1024.ensures in
     exit.1 ∙ ap Err exit.2 ∙ answer_refused tt (open_at_1024 book c.in-1024.is ∙ ap (λ o. option_or o (block_fault (block_of book 1) 1 2)) refused)
 
-pub returns-in-ok-check-block : goal.returns-in-ok-check-block
-returns-in-ok-check-block c =
+pub returns-in_ok-check_block-in-1024 : goal.returns-in_ok-check_block-in-1024
+returns-in_ok-check_block-in-1024 c =
     let book = c.args.book.now in
-    let passed = fault_of_ok (block_fault (block_of book 0) 0 2) tt _ c.in-ok-check-block.ensures in
-    c.check-block-in-1024-2.ensures ∙
+    let passed = fault_of_ok (block_fault (block_of book 0) 0 2) tt _ c.in_ok-check_block-in-1024.ensures in
+    c.check_block-in-1024-2.ensures ∙
     sym (ap (λ o. answer o tt) (open_at_1024 book c.in-1024.is ∙ ap (λ o. option_or o (block_fault (block_of book 1) 1 2)) passed))

@@ -11,20 +11,20 @@ use Rattle.book.proofs.reader.collected.Goals as goal
 
 pub loop-item-init : goal.loop-item-init
 loop-item-init c =
-    filled_none c.args.cursor.book.now (task_set c.with-ratio-plan.result) (walk c.args.cursor) c.requires.begun
-    (ap (λ s. s.tasks) c.with-ratio-plan.ensures)
+    filled_none c.args.cursor.book.now (task_set c.with_ratio-plan.result) (walk c.args.cursor) c.requires.begun
+    (ap (λ s. s.tasks) c.with_ratio-plan.ensures)
 
-pub task-of-requires : goal.task-of-requires
-task-of-requires c =
+pub task_of-requires : goal.task_of-requires
+task_of-requires c =
     bytes_long c.args.cursor.book.now c.requires.opened _ _ (walk c.loop-item.cursor) (task_set c.loop-item.plan) c.loop-item.invariant
     (seen c.in-Some.item) c.in-Some.ensures.handed
 
-pub returns-in-err-task : goal.returns-in-err-task
-returns-in-err-task c =
+pub returns-in_err-task : goal.returns-in_err-task
+returns-in_err-task c =
     let book : List ℕ = c.args.cursor.book.now in
-    let exit = err_from_is_err_and c.from-residual.result c.from-residual.ensures.1 in
+    let exit = err_from_is_err_and c.from_residual.result c.from_residual.ensures.1 in
     let first = refused_is_first book c.requires.opened _ _ (walk c.loop-item.cursor) (task_set c.loop-item.plan) c.loop-item.invariant
-    (seen c.in-Some.item) (parameters_of (draft_of c.in-Some.item.bytes.now)) c.in-err-task.field-0.0 c.in-Some.ensures.handed c.in-err-task.ensures in
+    (seen c.in-Some.item) (parameters_of (draft_of c.in-Some.item.bytes.now)) c.in_err-task.field-0.0 c.in-Some.ensures.handed c.in_err-task.ensures in
     ap (result_map_both task_set (λ e. e)) (exit.1 ∙ ap Err exit.2) ∙ answer_refused (holding book c.args.ratio.p c.args.ratio.q) first
 
 pub loop-item-smaller : goal.loop-item-smaller
@@ -37,14 +37,14 @@ loop-item-smaller c =
 pub loop-item-preserved : goal.loop-item-preserved
 loop-item-preserved c =
     filled_more c.args.cursor.book.now c.requires.opened _ _ (walk c.loop-item.cursor) (task_set c.loop-item.plan) c.loop-item.invariant
-    (seen c.in-Some.item) (parameters c.in-ok-task.task) (walk c.next.new.self) (task_set c.append.new.self)
-    c.in-Some.ensures.handed c.in-Some.ensures.after c.in-ok-task.ensures c.append.ensures.after
+    (seen c.in-Some.item) (parameters c.in_ok-task.task) (walk c.next.new.self) (task_set c.append.new.self)
+    c.in-Some.ensures.handed c.in-Some.ensures.after c.in_ok-task.ensures c.append.ensures.after
 
 pub returns : goal.returns
 returns c =
     let book : List ℕ = c.args.cursor.book.now in
-    let fresh : TaskSet = task_set c.with-ratio-plan.result in
-    let made : fresh ≡ _ = c.with-ratio-plan.ensures in
-    let all = filled_all book c.requires.opened fresh.p fresh.q (walk c.loop-item.cursor) (task_set c.loop-item.plan) c.loop-item.invariant c.in-default.ensures.handed in
-    let clean = clean_all book c.requires.opened fresh.p fresh.q (walk c.loop-item.cursor) (task_set c.loop-item.plan) c.loop-item.invariant c.in-default.ensures.handed in
+    let fresh : TaskSet = task_set c.with_ratio-plan.result in
+    let made : fresh ≡ _ = c.with_ratio-plan.ensures in
+    let all = filled_all book c.requires.opened fresh.p fresh.q (walk c.loop-item.cursor) (task_set c.loop-item.plan) c.loop-item.invariant c.in_default.ensures.handed in
+    let clean = clean_all book c.requires.opened fresh.p fresh.q (walk c.loop-item.cursor) (task_set c.loop-item.plan) c.loop-item.invariant c.in_default.ensures.handed in
     ap Ok (all ∙ ap (λ s. holding book s.p s.q) made) ∙ answer_accepted (holding book c.args.ratio.p c.args.ratio.q) clean

@@ -7,9 +7,9 @@ returns c =
     let bytes = c.args.bytes.now in
     record {
       numbers = λ i. record {
-        period = c.from-le-bytes.ensures i;
-        deadline = c.from-le-bytes-2.ensures i;
-        work = c.from-le-bytes-3.ensures i;
+        period = c.from_le_bytes.ensures i;
+        deadline = c.from_le_bytes-2.ensures i;
+        work = c.from_le_bytes-3.ensures i;
         m = get_or bytes 6 0;
         k = get_or bytes 7 0;
         speed = get_or bytes 8 0;

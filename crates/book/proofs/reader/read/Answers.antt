@@ -11,54 +11,54 @@ use Rattle.book.specs.Reading.{decoded, holding, open_fault}
 use Rattle.book.specs.Writing.{encoded}
 use Rattle.book.proofs.reader.read.Goals as goal
 
-pub returns-in-err-cursor : goal.returns-in-err-cursor
-returns-in-err-cursor c =
+pub returns-in_err-cursor : goal.returns-in_err-cursor
+returns-in_err-cursor c =
     let book : List ℕ = c.args.book.now in
-    let exit = err_from_is_err_and c.from-residual.result c.from-residual.ensures.1 in
-    let refused = refused_at_blocks book (fault_of_err (open_fault book) (begun book) _ c.in-err-cursor.ensures.answer) in
+    let exit = err_from_is_err_and c.from_residual.result c.from_residual.ensures.1 in
+    let refused = refused_at_blocks book (fault_of_err (open_fault book) (begun book) _ c.in_err-cursor.ensures.answer) in
     record {
       answer = exit.1 ∙ ap Err exit.2 ∙ answer_refused tt refused;
       after = left_refused (decoded book) (task_set c.args.plan.now) refused;
       kept = λ _. refl;
-      rewrites = IfOk-from_err c.from-residual.result _ c.from-residual.ensures.0;
+      rewrites = IfOk-from_err c.from_residual.result _ c.from_residual.ensures.0;
     }
 
-pub returns-in-default : goal.returns-in-default
-returns-in-default c =
-    absurd (has_a_ratio c.args.book.now (walk c.in-ok-cursor.cursor) c.in-ok-cursor.ensures.answer c.in-default.ensures)
+pub returns-in_default : goal.returns-in_default
+returns-in_default c =
+    absurd (has_a_ratio c.args.book.now (walk c.in_ok-cursor.cursor) c.in_ok-cursor.ensures.answer c.in_default.ensures)
 
 pub collected-requires : goal.collected-requires
 collected-requires c =
-    let opened = c.in-ok-cursor.ensures.answer in
+    let opened = c.in_ok-cursor.ensures.answer in
     record {
-      opened = its_book_passed c.args.book.now (walk c.in-ok-cursor.cursor) opened;
-      begun = it_begins c.args.book.now (walk c.in-ok-cursor.cursor) opened;
+      opened = its_book_passed c.args.book.now (walk c.in_ok-cursor.cursor) opened;
+      begun = it_begins c.args.book.now (walk c.in_ok-cursor.cursor) opened;
     }
 
-pub returns-in-err-plan : goal.returns-in-err-plan
-returns-in-err-plan c =
+pub returns-in_err-plan : goal.returns-in_err-plan
+returns-in_err-plan c =
     let book : List ℕ = c.args.book.now in
-    let exit = err_from_is_err_and c.from-residual-in-err-plan.result c.from-residual-in-err-plan.ensures.1 in
-    let refused = refused_by_record book (walk c.in-ok-cursor.cursor) c.in-ok-cursor.ensures.answer
-    (holding c.in-ok-cursor.cursor.book.now c.in-Some.ratio.p c.in-Some.ratio.q) c.in-err-plan.field-0.0 c.in-err-plan.ensures in
+    let exit = err_from_is_err_and c.from_residual-in_err-plan.result c.from_residual-in_err-plan.ensures.1 in
+    let refused = refused_by_record book (walk c.in_ok-cursor.cursor) c.in_ok-cursor.ensures.answer
+    (holding c.in_ok-cursor.cursor.book.now c.in-Some.ratio.p c.in-Some.ratio.q) c.in_err-plan.field-0.0 c.in_err-plan.ensures in
     record {
       answer = exit.1 ∙ ap Err exit.2 ∙ answer_refused tt refused;
       after = left_refused (decoded book) (task_set c.args.plan.now) refused;
       kept = λ _. refl;
-      rewrites = IfOk-from_err c.from-residual-in-err-plan.result _ c.from-residual-in-err-plan.ensures.0;
+      rewrites = IfOk-from_err c.from_residual-in_err-plan.result _ c.from_residual-in_err-plan.ensures.0;
     }
 
 pub returns : goal.returns
 returns c =
     let book : List ℕ = c.args.book.now in
-    let w : Walk = walk c.in-ok-cursor.cursor in
+    let w : Walk = walk c.in_ok-cursor.cursor in
     let ratio : ℕ × ℕ = gears c.in-Some.ratio in
-    let set : TaskSet = task_set c.in-ok-plan.field-0 in
-    let passed = passed_all book w c.in-ok-cursor.ensures.answer ratio set c.in-Some.ensures c.in-ok-plan.ensures in
-    let held = holds_it book w c.in-ok-cursor.ensures.answer ratio set c.in-Some.ensures c.in-ok-plan.ensures in
+    let set : TaskSet = task_set c.in_ok-plan.field-0 in
+    let passed = passed_all book w c.in_ok-cursor.ensures.answer ratio set c.in-Some.ensures c.in_ok-plan.ensures in
+    let held = holds_it book w c.in_ok-cursor.ensures.answer ratio set c.in-Some.ensures c.in_ok-plan.ensures in
     record {
       answer = answer_accepted tt passed;
       after = held ∙ left_accepted (decoded book) (task_set c.args.plan.now) passed;
       kept = λ e. absurd (true≢false e);
-      rewrites = ap encoded held ∙ written_again book (λ i. omega (arith, c.type-inv.book i)) passed;
+      rewrites = ap encoded held ∙ written_again book (λ i. omega (arith, c.type_inv.book i)) passed;
     }

@@ -10,28 +10,28 @@ use Rattle.book.specs.Cursors.{place_of}
 use Rattle.book.specs.Reading.{draft_of}
 use Rattle.book.proofs.reader.task_of.Goals as goal
 
-pub returns-in-err-task : goal.returns-in-err-task
-returns-in-err-task c =
+pub returns-in_err-task : goal.returns-in_err-task
+returns-in_err-task c =
     let bytes : List ℕ = c.args.item.now.bytes.now in
     let at : Place = place_of c.args.item.now in
-    let exit = err_from_is_err_and c.from-residual.result c.from-residual.ensures.1 in
-    let refused = bad_number bytes at c.fields.result.0 c.fields.result.1.now c.fields.ensures.numbers c.fields.ensures.rest _ c.in-err-task.ensures in
+    let exit = err_from_is_err_and c.from_residual.result c.from_residual.ensures.1 in
+    let refused = bad_number bytes at c.fields.result.0 c.fields.result.1.now c.fields.ensures.numbers c.fields.ensures.rest _ c.in_err-task.ensures in
     ap (result_map_both parameters (λ e. e)) (exit.1 ∙ ap Err exit.2) ∙ answer_refused (parameters_of (draft_of bytes)) refused
 
-pub returns-in-err-expect-zero : goal.returns-in-err-expect-zero
-returns-in-err-expect-zero c =
+pub returns-in_err-expect_zero : goal.returns-in_err-expect_zero
+returns-in_err-expect_zero c =
     let bytes : List ℕ = c.args.item.now.bytes.now in
     let at : Place = place_of c.args.item.now in
-    let exit = err_from_is_err_and c.from-residual-in-err-expect-zero.result c.from-residual-in-err-expect-zero.ensures.1 in
-    let tail = then_rest bytes at c.fields.result.0 c.fields.result.1.now c.fields.ensures.numbers c.fields.ensures.rest _ c.in-ok-task.ensures in
-    let refused = tail ∙ fault_of_err _ tt _ c.in-err-expect-zero.ensures in
+    let exit = err_from_is_err_and c.from_residual-in_err-expect_zero.result c.from_residual-in_err-expect_zero.ensures.1 in
+    let tail = then_rest bytes at c.fields.result.0 c.fields.result.1.now c.fields.ensures.numbers c.fields.ensures.rest _ c.in_ok-task.ensures in
+    let refused = tail ∙ fault_of_err _ tt _ c.in_err-expect_zero.ensures in
     ap (result_map_both parameters (λ e. e)) (exit.1 ∙ ap Err exit.2) ∙ answer_refused (parameters_of (draft_of bytes)) refused
 
 pub returns : goal.returns
 returns c =
     let bytes : List ℕ = c.args.item.now.bytes.now in
     let at : Place = place_of c.args.item.now in
-    let tail = then_rest bytes at c.fields.result.0 c.fields.result.1.now c.fields.ensures.numbers c.fields.ensures.rest _ c.in-ok-task.ensures in
-    let passed = tail ∙ fault_of_ok _ tt _ c.in-ok-expect-zero.ensures in
-    ap Ok (the_task bytes at c.fields.result.0 c.fields.result.1.now c.fields.ensures.numbers c.fields.ensures.rest _ c.in-ok-task.ensures) ∙
+    let tail = then_rest bytes at c.fields.result.0 c.fields.result.1.now c.fields.ensures.numbers c.fields.ensures.rest _ c.in_ok-task.ensures in
+    let passed = tail ∙ fault_of_ok _ tt _ c.in_ok-expect_zero.ensures in
+    ap Ok (the_task bytes at c.fields.result.0 c.fields.result.1.now c.fields.ensures.numbers c.fields.ensures.rest _ c.in_ok-task.ensures) ∙
     answer_accepted (parameters_of (draft_of bytes)) passed

@@ -4,5 +4,5 @@ use Rattle.book.proofs.writer.put.Goals as goal
 
 pub returns : goal.returns
 returns c =
-    put_is_over c.args.at (c.args.at + length c.args.bytes.now - c.args.at) c.args.block.now c.args.bytes.now c.copy-from-slice.new.self
-    c.copy-from-slice.ensures.after (omega arith)
+    put_is_over c.args.at (c.args.at + length c.args.bytes.now - c.args.at) c.args.block.now c.args.bytes.now c.copy_from_slice.new.self
+    c.copy_from_slice.ensures.after (omega arith)

@@ -16,7 +16,7 @@ pub loop-r-preserved : goal.loop-r-preserved
 loop-r-preserved c =
     let set : TaskSet = task_set c.args.plan.now in
     c.put.ensures ∙
-    ap (over c.loop-r.block (32 + 32 * c.loop-r.r)) c.slot-bytes.ensures ∙
+    ap (over c.loop-r.block (32 + 32 * c.loop-r.r)) c.slot_bytes.ensures ∙
     turn_put (slot_at set c.args.place) 32 32 (each set c.args.place) (take 32 c.args.block.now) c.args.block.now c.loop-r.block c.loop-r.r
     (length-take-le 32 c.args.block.now (omega arith)) c.loop-r.invariant
 
