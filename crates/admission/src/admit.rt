@@ -14,8 +14,8 @@ use plan::plan::Plan;
 // Whether some timetable serves every mandatory job of the plan: runs one cycle of it, and where that meets a late
 // task, looks for the span that is overloaded.
 pub fn admit<P: Pattern>(policy: &P, plan: &Plan) -> Verdict
-    ensures defined { result ≡ verdict (task_set plan.now) (meaning policy.now) }
-    ensures right { Right (task_set plan.now) (meaning policy.now) result }
+    ensures defined { result ≡ verdict (task_set plan.now) (P.meaning policy.now) }
+    ensures right { Right (task_set plan.now) (P.meaning policy.now) result }
 {
     let Some(cycle) = cycle(policy, plan) else {
         return Verdict::TooLong;

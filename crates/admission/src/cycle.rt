@@ -12,7 +12,7 @@ const LIMIT: u64 = 1_048_576;
 
 // The cycle, or nothing if it is above the limit: a value so far above the limit decides.
 pub(crate) fn cycle<P: Pattern>(policy: &P, plan: &Plan) -> Option<u32>
-    ensures { result ≡ (if nat_lt 1048576 (cycle_of (task_set plan.now) (meaning policy.now)) then None else Some (cycle_of (task_set plan.now) (meaning policy.now))) }
+    ensures { result ≡ (if nat_lt 1048576 (cycle_of (task_set plan.now) (P.meaning policy.now)) then None else Some (cycle_of (task_set plan.now) (P.meaning policy.now))) }
 {
     let mut so_far = 1;
     for i in 0..plan.len() {
@@ -26,7 +26,7 @@ pub(crate) fn cycle<P: Pattern>(policy: &P, plan: &Plan) -> Option<u32>
 
 // The ticks after which the releases and marks of the task repeat, and 0 if there is no such task.
 fn repetition<P: Pattern>(policy: &P, plan: &Plan, number: usize) -> u64
-    ensures { result ≡ repetition (task_set plan.now) (meaning policy.now) number }
+    ensures { result ≡ repetition (task_set plan.now) (P.meaning policy.now) number }
 {
     match plan.task(number) {
         Some(task) => u64::from(task.period) * u64::from(policy.length(number, task.m, task.k)),

@@ -11,7 +11,7 @@ use service::backlog::Backlog;
 // The first tick of the cycle that reports a task late, its end included: a deadline missed there shows only then.
 pub(crate) fn first_miss<P: Pattern>(policy: &P, plan: &Plan, cycle: u32) -> Option<u32>
     requires { cycle ≤ 1048576 }
-    ensures { FirstMiss (system (task_set plan.now) (meaning policy.now)) cycle result }
+    ensures { FirstMiss (system (task_set plan.now) (P.meaning policy.now)) cycle result }
 {
     let mut backlog = Backlog::cleared();
     for tick in 0..cycle + 1 {

@@ -14,8 +14,8 @@ use service::releases::released_job;
 // what is released there.
 pub(crate) fn last_overload<P: Pattern>(policy: &P, plan: &Plan, end: u32) -> Overload
     requires short { end ≤ 1048576 }
-    requires some { is_some (last_overload (task_set plan.now) (meaning policy.now) end) ≡ true }
-    ensures { Some result ≡ last_overload (task_set plan.now) (meaning policy.now) end }
+    requires some { is_some (last_overload (task_set plan.now) (P.meaning policy.now) end) ≡ true }
+    ensures { Some result ≡ last_overload (task_set plan.now) (P.meaning policy.now) end }
 {
     let mut start = end;
     let mut work = 0;
@@ -29,7 +29,7 @@ pub(crate) fn last_overload<P: Pattern>(policy: &P, plan: &Plan, end: u32) -> Ov
 // The work released at the tick with a deadline at or before the end.
 fn due<P: Pattern>(policy: &P, plan: &Plan, tick: u32, end: u32) -> u32
     requires { tick ≤ 1048576 }
-    ensures { result ≡ due (system (task_set plan.now) (meaning policy.now)) end tick }
+    ensures { result ≡ due (system (task_set plan.now) (P.meaning policy.now)) end tick }
 {
     let mut work = 0;
     for i in 0..plan.len() {
@@ -41,7 +41,7 @@ fn due<P: Pattern>(policy: &P, plan: &Plan, tick: u32, end: u32) -> u32
 // The work of the job that the task releases at the tick, if there is one and its deadline is at or before the end.
 fn work_due<P: Pattern>(policy: &P, plan: &Plan, number: usize, tick: u32, end: u32) -> u32
     requires { tick ≤ 1048576 }
-    ensures { result ≡ work_due (system (task_set plan.now) (meaning policy.now)) end tick number }
+    ensures { result ≡ work_due (system (task_set plan.now) (P.meaning policy.now)) end tick number }
 {
     match released_job(plan, policy, number, tick) {
         Some(job) if tick + u32::from(job.ticks) <= end => job.work,

@@ -27,10 +27,10 @@ impl<P: Pattern> Runner<P> {
 
     // Serves one tick.
     pub fn tick(&mut self) -> TickAnswer
-        ensures answer { result ≡ tick_answer (meaning self.old.policy) (state self.old.board) }
-        ensures after { state self.new.board ≡ tick_state (meaning self.old.policy) (state self.old.board) }
+        ensures answer { result ≡ tick_answer (P.meaning self.old.policy) (state self.old.board) }
+        ensures after { state self.new.board ≡ tick_state (P.meaning self.old.policy) (state self.old.board) }
         ensures policy { self.new.policy ≡ self.old.policy }
-        ensures promise { PromiseGoesOn (meaning self.old.policy) (state self.old.board) action.tick (said.Tick result) (state self.new.board) }
+        ensures promise { PromiseGoesOn (P.meaning self.old.policy) (state self.old.board) action.tick (said.Tick result) (state self.new.board) }
     {
         self.board.tick(&self.policy)
     }
@@ -41,7 +41,7 @@ impl<P: Pattern> Runner<P> {
         ensures after { state self.new.board ≡ done_state (state self.old.board) task }
         ensures policy { self.new.policy ≡ self.old.policy }
         ensures kept { is_ok result ≡ false → self.new ≡ self.old }
-        ensures promise { PromiseGoesOn (meaning self.old.policy) (state self.old.board) (action.done task) (said.Done result) (state self.new.board) }
+        ensures promise { PromiseGoesOn (P.meaning self.old.policy) (state self.old.board) (action.done task) (said.Done result) (state self.new.board) }
     {
         self.board.done(task)
     }
@@ -49,7 +49,7 @@ impl<P: Pattern> Runner<P> {
     // The work left and the ticks left of the task's open job, or nothing if no work is left.
     pub fn ask(&self, task: usize) -> Result<Option<(u32, u16)>, TaskFault>
         ensures answer { result ≡ ask_answer (state self.now.board) task }
-        ensures promise { PromiseGoesOn (meaning self.now.policy) (state self.now.board) (action.ask task) (said.Ask result) (state self.now.board) }
+        ensures promise { PromiseGoesOn (P.meaning self.now.policy) (state self.now.board) (action.ask task) (said.Ask result) (state self.now.board) }
     {
         self.board.ask(task)
     }

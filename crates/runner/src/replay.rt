@@ -12,8 +12,8 @@ use pattern::policy::Pattern;
 impl<P: Pattern> Runner<P> {
     // Makes the call. A load that names no book is one of the empty book.
     fn make(&mut self, call: Call, books: &[&[u8]]) -> Answer
-        ensures answer { result ≡ reply (meaning self.old.policy) (state self.old.board) (action (map (λ b. b.now) books.now) call) }
-        ensures after { state self.new.board ≡ next (meaning self.old.policy) (state self.old.board) (action (map (λ b. b.now) books.now) call) }
+        ensures answer { result ≡ reply (P.meaning self.old.policy) (state self.old.board) (action (map (λ b. b.now) books.now) call) }
+        ensures after { state self.new.board ≡ next (P.meaning self.old.policy) (state self.old.board) (action (map (λ b. b.now) books.now) call) }
         ensures policy { self.new.policy ≡ self.old.policy }
         ensures bytes { OfBytes (action (map (λ b. b.now) books.now) call) }
     {
@@ -46,7 +46,7 @@ pub fn replay<P: Pattern>(
     books: &[&[u8]],
     answers: &mut [Answer],
 ) -> Runner<P>
-    ensures promise { Promise (meaning policy) (actions (map (λ b. b.now) books.now) (take (min (length calls.now) (length answers.old)) calls.now)) (take (min (length calls.now) (length answers.old)) answers.new) (state result.board) }
+    ensures promise { Promise (P.meaning policy) (actions (map (λ b. b.now) books.now) (take (min (length calls.now) (length answers.old)) calls.now)) (take (min (length calls.now) (length answers.old)) answers.new) (state result.board) }
     ensures rest { drop (min (length calls.now) (length answers.old)) answers.new ≡ drop (min (length calls.now) (length answers.old)) answers.old }
     ensures policy { result.policy ≡ policy }
 {

@@ -28,8 +28,8 @@ impl Board {
 
     // Serves one tick.
     pub(crate) fn tick<P: Pattern>(&mut self, policy: &P) -> TickAnswer
-        ensures answer { result ≡ tick_answer (meaning policy.now) (state self.old) }
-        ensures after { state self.new ≡ tick_state (meaning policy.now) (state self.old) }
+        ensures answer { result ≡ tick_answer (P.meaning policy.now) (state self.old) }
+        ensures after { state self.new ≡ tick_state (P.meaning policy.now) (state self.old) }
     {
         let answer = self.backlog.tick(&self.plan, policy, self.position);
         self.last = answer.served;

@@ -21,8 +21,8 @@ use plan::plan::Plan;
 impl<P: Pattern> Runner<P> {
     // Starts the plan and answers its cycle, or refuses it and goes on as before.
     pub fn start(&mut self, plan: Plan) -> Result<u32, StartFault>
-        ensures answer { result ≡ start_answer (verdict (task_set plan) (meaning self.old.policy)) }
-        ensures right { Right (task_set plan) (meaning self.old.policy) (shown result) }
+        ensures answer { result ≡ start_answer (verdict (task_set plan) (P.meaning self.old.policy)) }
+        ensures right { Right (task_set plan) (P.meaning self.old.policy) (shown result) }
         ensures after { state self.new.board ≡ taken (task_set plan) result (state self.old.board) }
         ensures policy { self.new.policy ≡ self.old.policy }
         ensures kept { is_ok result ≡ false → self.new ≡ self.old }
@@ -39,8 +39,8 @@ impl<P: Pattern> Runner<P> {
 
     // Reads the book and starts its plan.
     pub fn load(&mut self, book: &[u8]) -> Result<u32, LoadFault>
-        ensures answer { result ≡ load_answer (read_fault book.now) (verdict (decoded book.now) (meaning self.old.policy)) }
-        ensures right { RightLoad (meaning self.old.policy) book.now result }
+        ensures answer { result ≡ load_answer (read_fault book.now) (verdict (decoded book.now) (P.meaning self.old.policy)) }
+        ensures right { RightLoad (P.meaning self.old.policy) book.now result }
         ensures after { state self.new.board ≡ taken (decoded book.now) result (state self.old.board) }
         ensures policy { self.new.policy ≡ self.old.policy }
         ensures kept { is_ok result ≡ false → self.new ≡ self.old }

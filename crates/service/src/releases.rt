@@ -17,7 +17,7 @@ pub fn released_job<P: Pattern>(
     number: usize,
     tick: u32,
 ) -> Option<Pending>
-    ensures { result ≡ released_job (task_set plan.now) (meaning policy.now) number tick }
+    ensures { result ≡ released_job (task_set plan.now) (P.meaning policy.now) number tick }
 {
     let task = plan.task(number)?;
     if !releases(policy, number, task, tick) {
@@ -31,7 +31,7 @@ pub fn released_job<P: Pattern>(
 
 // Whether the task with that number releases a mandatory job at the tick: job tick / T, if T divides the tick.
 fn releases<P: Pattern>(policy: &P, number: usize, task: Task, tick: u32) -> bool
-    ensures { result ≡ (tick % task.period == 0 && mandatory (meaning policy.now) number task.m task.k (tick / task.period)) }
+    ensures { result ≡ (tick % task.period == 0 && mandatory (P.meaning policy.now) number task.m task.k (tick / task.period)) }
 {
     let period = u32::from(task.period);
     tick % period == 0 && policy.mark(number, task.m, task.k, tick / period)

@@ -16,9 +16,9 @@ use plan::plan::Plan;
 impl Backlog {
     // Lets the late go, releases, serves whose deadline comes first, and ages, at a position in the plan's cycle.
     pub fn tick<P: Pattern>(&mut self, plan: &Plan, policy: &P, position: u32) -> TickAnswer
-        ensures answer { result ≡ answer_of (count (task_set plan.now)) (tick (system (task_set plan.now) (meaning policy.now)) position (view (task_set plan.now) self.old)) }
-        ensures after { view (task_set plan.now) self.new ≡ (tick (system (task_set plan.now) (meaning policy.now)) position (view (task_set plan.now) self.old)).left }
-        ensures earliest { Earliest (count (task_set plan.now)) (release (system (task_set plan.now) (meaning policy.now)) position (drop_late (view (task_set plan.now) self.old))) result.served }
+        ensures answer { result ≡ answer_of (count (task_set plan.now)) (tick (system (task_set plan.now) (P.meaning policy.now)) position (view (task_set plan.now) self.old)) }
+        ensures after { view (task_set plan.now) self.new ≡ (tick (system (task_set plan.now) (P.meaning policy.now)) position (view (task_set plan.now) self.old)).left }
+        ensures earliest { Earliest (count (task_set plan.now)) (release (system (task_set plan.now) (P.meaning policy.now)) position (drop_late (view (task_set plan.now) self.old))) result.served }
     {
         let late = self.drop_late(plan);
         self.release(plan, policy, position);

@@ -52,7 +52,7 @@ impl Backlog {
 
     // Step 2: opens the jobs that are released at the position, with all their work and ticks.
     pub fn release<P: Pattern>(&mut self, plan: &Plan, policy: &P, position: u32)
-        ensures { view (task_set plan.now) self.new ≡ release (system (task_set plan.now) (meaning policy.now)) position (view (task_set plan.now) self.old) }
+        ensures { view (task_set plan.now) self.new ≡ release (system (task_set plan.now) (P.meaning policy.now)) position (view (task_set plan.now) self.old) }
     {
         for i in 0..plan.len() {
             if let Some(job) = released_job(plan, policy, i, position) {

@@ -6,4 +6,4 @@ use Rattle.admission.proofs.cycle.cycle.Given as goal
 
 -- the cycle of the tasks so far, which is not above the limit
 abbrev pub invariant-loop-i : goal.invariant-loop-i
-invariant-loop-i g l = (l.so-far ≡ cycle l.i (repetition (task_set l.plan) (g.P.Pattern.meaning l.policy))) × (l.so-far ≤ 1048576)
+invariant-loop-i g l = (l.so_far ≡ cycle l.i (repetition (task_set l.plan) (g.P.Pattern.meaning l.policy))) × (l.so_far ≤ 1048576)

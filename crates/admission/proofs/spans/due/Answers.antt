@@ -6,8 +6,8 @@ use Rattle.edf.specs.System.{work_due}
 use Rattle.admission.proofs.Demands.{due_so_far}
 use Rattle.admission.proofs.spans.due.Goals as goal
 
-pub overflow-add-work : goal.overflow-add-work
-overflow-add-work g c =
+pub overflow_add-work : goal.overflow_add-work
+overflow_add-work g c =
     let so_far = due_so_far c.args.plan.now (g.P.Pattern.meaning c.args.policy.now) (suc c.loop-i.i) c.args.end c.args.tick (omega arith) in
     omega (arith, c.loop-i.invariant)
 

@@ -8,10 +8,10 @@ use Rattle.service.proofs.Rowwise.{stepped_next, stepped_more, stepped_over}
 use Rattle.service.proofs.Stepping.{dropped, drops_late, dropped_late, dropped_timely, late_by_row}
 use Rattle.service.specs.Rows.{idle, row, view, overdue}
 use Rattle.service.proofs.backlog.Backlog.drop_late.Goals as goal
-use Rattle.service.proofs.backlog.Backlog.drop_late.Goals.{then-is-late, else-is-late}
+use Rattle.service.proofs.backlog.Backlog.drop_late.Goals.{then-is_late, else-is_late}
 
-pub overflow-add-missed : goal.overflow-add-missed
-overflow-add-missed c = omega (arith, mask_fits c.loop-i.i (late (view (task_set c.args.plan.now) c.args.self.now)) (omega arith) c.loop-i.missed c.loop-i.invariant.1)
+pub overflow_add-missed : goal.overflow_add-missed
+overflow_add-missed c = omega (arith, mask_fits c.loop-i.i (late (view (task_set c.args.plan.now) c.args.self.now)) (omega arith) c.loop-i.missed c.loop-i.invariant.1)
 
 pub loop-i-preserved : goal.loop-i-preserved
 loop-i-preserved c =
@@ -20,16 +20,16 @@ loop-i-preserved c =
     let old = c.args.self.now in
     let below : i < count tasks = omega arith in
     let seen : get_or c.loop-i.self.rows i idle ≡ row old i = stepped_next dropped i old.rows c.loop-i.self.rows c.loop-i.invariant.0 in
-    let same : late (view tasks old) i ≡ c.is-late.result = late_by_row tasks old i below ∙ sym (c.is-late.ensures ∙ ap overdue seen) in
-    elim c.if-is-late.branch [
-      | then-is-late w ↦ rw (w.self-is, w.missed-is) (
+    let same : late (view tasks old) i ≡ c.is_late.result = late_by_row tasks old i below ∙ sym (c.is_late.ensures ∙ ap overdue seen) in
+    elim c.if-is_late.branch [
+      | then-is_late w ↦ rw (w.self-is, w.missed-is) (
         stepped_more dropped i old.rows c.loop-i.self.rows _ (omega arith) c.loop-i.invariant.0
-            (ap (λ p. record { work = 0; ticks = p.ticks }) seen ∙ dropped_late (row old i) (sym (late_by_row tasks old i below) ∙ same ∙ w.if-is-late.true)),
-        mask_with i (late (view tasks old)) (omega arith) c.loop-i.missed c.loop-i.invariant.1 (same ∙ w.if-is-late.true),
+            (ap (λ p. record { work = 0; ticks = p.ticks }) seen ∙ dropped_late (row old i) (sym (late_by_row tasks old i below) ∙ same ∙ w.if-is_late.true)),
+        mask_with i (late (view tasks old)) (omega arith) c.loop-i.missed c.loop-i.invariant.1 (same ∙ w.if-is_late.true),
       )
-      | else-is-late w ↦ rw (w.self-is, w.missed-is) (
+      | else-is_late w ↦ rw (w.self-is, w.missed-is) (
         stepped_over dropped i old.rows c.loop-i.self.rows c.loop-i.invariant.0
-            (dropped_timely (row old i) (sym (late_by_row tasks old i below) ∙ same ∙ w.if-is-late.false)),
-        mask_without i (late (view tasks old)) (omega arith) c.loop-i.missed c.loop-i.invariant.1 (same ∙ w.if-is-late.false),
+            (dropped_timely (row old i) (sym (late_by_row tasks old i below) ∙ same ∙ w.if-is_late.false)),
+        mask_without i (late (view tasks old)) (omega arith) c.loop-i.missed c.loop-i.invariant.1 (same ∙ w.if-is_late.false),
       )
     ]

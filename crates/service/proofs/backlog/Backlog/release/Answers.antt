@@ -7,7 +7,7 @@ use Rattle.service.proofs.Stepping.{opened, releases_jobs}
 use Rattle.service.specs.Rows.{idle, row, released_job}
 use Rattle.service.specs.declared.backlog.Pending.{Pending}
 use Rattle.service.proofs.backlog.Backlog.release.Goals as goal
-use Rattle.service.proofs.backlog.Backlog.release.Goals.{in-Some, in-default}
+use Rattle.service.proofs.backlog.Backlog.release.Goals.{in-Some, in_default}
 
 pub loop-i-preserved : goal.loop-i-preserved
 loop-i-preserved g c =
@@ -16,14 +16,14 @@ loop-i-preserved g c =
     let step : ℕ → Pending → Pending = λ k. opened (released_job tasks policy k c.args.position) in
     let i : ℕ = c.loop-i.i in
     let old = c.args.self.now in
-    elim c.match-released-job.branch [
+    elim c.match-released_job.branch [
       | in-Some w ↦ rw w.self-is (
           stepped_more step i old.rows c.loop-i.self.rows w.in-Some.job (omega arith) c.loop-i.invariant
           (ap (λ o. opened o (row old i)) w.in-Some.ensures)
           )
-      | in-default w ↦ rw w.self-is (
+      | in_default w ↦ rw w.self-is (
           stepped_over step i old.rows c.loop-i.self.rows c.loop-i.invariant
-          (ap (λ o. opened o (row old i)) (sym w.in-default.ensures))
+          (ap (λ o. opened o (row old i)) (sym w.in_default.ensures))
           )
     ]
 

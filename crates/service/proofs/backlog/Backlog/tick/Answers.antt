@@ -44,19 +44,19 @@ returns g c =
           ∙ ap (λ b. ended (Some k) (view tasks b)) (sym w.self-is) ∙ ap (λ o. ended o worked) (sym (same ∙ w.in-Some.is))
       | in-None w ↦ w.finished-is ∙ ap (λ o. ended o worked) (sym (same ∙ w.in-None.is))
     ] in
-    let steps : Steps S n before served c.match-served.finished c.drop-late-late.result left = record {
+    let steps : Steps S n before served c.match-served.finished c.drop_late-late.result left = record {
       opened = opened;
       worked = worked;
-      releases = c.release.ensures ∙ ap (release S n) c.drop-late-late.ensures.after;
+      releases = c.release.ensures ∙ ap (release S n) c.drop_late-late.ensures.after;
       chooses = same ∙ c.choose-served.ensures.answer;
       serves = serves;
       finishes = finishes;
       ages = c.age.ensures;
-      misses = c.drop-late-late.ensures.missed;
+      misses = c.drop_late-late.ensures.missed;
     } in
     record {
-      answer = tick_answers S n before served c.match-served.finished c.drop-late-late.result left steps;
-      after = tick_leaves S n before served c.match-served.finished c.drop-late-late.result left steps;
-      earliest = tick_serves_earliest S n before served c.match-served.finished c.drop-late-late.result left steps
+      answer = tick_answers S n before served c.match-served.finished c.drop_late-late.result left steps;
+      after = tick_leaves S n before served c.match-served.finished c.drop_late-late.result left steps;
+      earliest = tick_serves_earliest S n before served c.match-served.finished c.drop_late-late.result left steps
           (rw same c.choose-served.ensures.earliest);
     }
