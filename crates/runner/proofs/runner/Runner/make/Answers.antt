@@ -15,8 +15,8 @@ returns-in-Load g c =
     let policy : Meaning = g.P.Pattern.meaning c.args.self.now.policy in
     let before : State = state c.args.self.now.board in
     let books : List (List ℕ) = map (λ b. b.now) c.args.books.now in
-    let book : List ℕ = c.book-at.result.now in
-    let same : load book ≡ action books c.args.call = ap load c.book-at.ensures ∙ ap (action books) (sym c.in-Load.is) in
+    let book : List ℕ = c.book_at.result.now in
+    let same : load book ≡ action books c.args.call = ap load c.book_at.ensures ∙ ap (action books) (sym c.in-Load.is) in
     record {
       answer = ap said.Load c.load.ensures.answer ∙ ap (reply policy before) same;
       after = c.load.ensures.after
