@@ -1,6 +1,6 @@
 -- A plan under a pattern policy: its tasks by number, their jobs, and the plan as tasks that release jobs.
 -- Assumes nothing.
-use Rattle.std.specs.Prelude.{ℕ, ◌+◌, ◌*◌, ◌/◌, ◌%◌, ◌<◌, ◌≤◌, Bool, ◌&&◌, length, ◌==◌}
+use Rattle.std.specs.Prelude.{ℕ, ◌+◌, ◌*◌, ◌/◌, ◌%◌, ◌<◌, ◌≤◌, Bool, ◌&&◌, ◌==◌}
 use Rattle.plan.specs.Bounded.{Bounded, count, task}
 use Rattle.plan.specs.TaskSet.{TaskSet, job_work}
 use Rattle.pattern.specs.Policy.{Meaning, mandatory}

@@ -1,6 +1,6 @@
 -- A done report on a board, row by row.
-use Rattle.std.proofs.Common.{◌≡◌, ℕ, ◌<◌, ◌≤◌, Bool, true, false, cond, not, eqb, ltb, leb, ◌≢◌, List, length, get_or, set, Some, None, Ok, Err, Option, sym, refl, ap, ◌∙◌, ⊎_elim, arith, get_or-set_other, get_or-set_same}
-use Rattle.std.proofs.lemmas.Bool.{cases_eq, cases_Bool, cond-true, lt-ltb, lt-leb, leb-false, eq-eqb, ne_eqb}
+use Rattle.std.proofs.Common.{◌≡◌, ℕ, ◌<◌, Bool, true, false, cond, not, eqb, ltb, leb, List, length, get_or, set, Some, None, Ok, sym, refl, ap, ◌∙◌, ⊎_elim, arith, get_or-set_other, get_or-set_same}
+use Rattle.std.proofs.lemmas.Bool.{cases_eq, cond-true, lt-ltb, lt-leb, leb-false, eq-eqb, ne_eqb}
 use Rattle.plan.specs.Bounded.{count}
 use Rattle.plan.specs.Checks.{refuse_if}
 use Rattle.plan.specs.Refusals.{answer}
@@ -8,7 +8,7 @@ use Rattle.plan.specs.TaskSet.{TaskSet, task_set}
 use Rattle.edf.specs.Run as run
 use Rattle.edf.specs.System.{is}
 use Rattle.edf.specs.Tick.{Counters}
-use Rattle.service.specs.Rows.{idle, row, view}
+use Rattle.service.specs.Rows.{idle, row}
 use Rattle.service.specs.declared.backlog.Pending.{Pending}
 use Rattle.runner.specs.Boards.{state, pending_answer}
 use Rattle.runner.specs.Rules.{done_fault}

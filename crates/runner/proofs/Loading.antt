@@ -1,5 +1,5 @@
 -- What a load answers and leaves, by what reading and starting did.
-use Rattle.std.proofs.Common.{◌≡◌, ℕ, ◌<◌, List, Some, None, Ok, Err, Option, Result, sym, ap, ◌∙◌, subst}
+use Rattle.std.proofs.Common.{◌≡◌, ℕ, ◌<◌, List, Some, None, Err, Result, sym, ap, ◌∙◌, subst}
 use Rattle.std.specs.Result.{result_map_both}
 use Rattle.plan.specs.TaskSet.{TaskSet}
 use Rattle.book.specs.Bytes.{byte}
@@ -8,9 +8,9 @@ use Rattle.book.specs.declared.fault.BookFault.{BookFault}
 use Rattle.pattern.specs.Policy.{Meaning, Lawful}
 use Rattle.admission.specs.Verdicts.{verdict}
 use Rattle.runner.proofs.Judging.{right_load}
-use Rattle.runner.specs.Promise.{RightLoad, taken}
+use Rattle.runner.specs.Promise.{RightLoad}
 use Rattle.runner.specs.Refusals.{by_book, by_start}
-use Rattle.runner.specs.Rules.{State, start_answer, load_answer}
+use Rattle.runner.specs.Rules.{start_answer, load_answer}
 use Rattle.runner.specs.declared.fault.LoadFault.{LoadFault}
 use Rattle.runner.specs.declared.fault.StartFault.{StartFault}
 

@@ -1,5 +1,5 @@
 -- The choice among one task more, and what is known of whom is chosen.
-use Rattle.std.proofs.Common.{◌≡◌, ℕ, suc, ◌+◌, ◌<◌, cond, ◌&&◌, ltb, IfSome, Some, None, Option, sym, refl, ap, ◌∙◌, add-one, arith}
+use Rattle.std.proofs.Common.{◌≡◌, ℕ, ◌+◌, ◌<◌, cond, ◌&&◌, ltb, IfSome, Some, None, Option, sym, ap, ◌∙◌, add-one, arith}
 use Rattle.std.proofs.lemmas.Bool.{lt-ltb, cond-true}
 use Rattle.plan.specs.Bounded.{count}
 use Rattle.plan.specs.TaskSet.{TaskSet}

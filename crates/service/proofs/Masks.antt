@@ -1,5 +1,5 @@
 -- A mask of numbers, bit by bit.
-use Rattle.std.proofs.Common.{◌≡◌, ℕ, zero, suc, ◌+◌, ◌*◌, ◌%◌, ◌^◌, ◌<◌, ◌≤◌, Bool, true, false, cond, refl, ap, ◌∙◌, mod-eq_of_lt, add-one, arith, pow_mono}
+use Rattle.std.proofs.Common.{◌≡◌, ℕ, zero, suc, ◌+◌, ◌*◌, ◌%◌, ◌^◌, ◌<◌, ◌≤◌, Bool, true, false, cond, ap, ◌∙◌, mod-eq_of_lt, add-one, arith, pow_mono}
 use Rattle.service.specs.Answers.{mask}
 
 at_most : (b : Bool) (n : ℕ) → cond b n 0 ≤ n

@@ -1,5 +1,5 @@
 -- What is released by a task that a plan has, and by one that it has not.
-use Rattle.std.proofs.Common.{◌≡◌, ℕ, ◌/◌, ◌%◌, ◌<◌, ◌≤◌, Bool, true, false, cond, ◌&&◌, eqb, ltb, length, get_or, Some, None, Option, sym, refl, ap, ◌∙◌, ⊎_elim, arith}
+use Rattle.std.proofs.Common.{◌≡◌, ℕ, ◌/◌, ◌%◌, ◌≤◌, Bool, true, false, cond, ◌&&◌, eqb, Some, None, sym, ap, ◌∙◌, ⊎_elim, arith}
 use Rattle.std.proofs.lemmas.List.{get_or_past}
 use Rattle.std.proofs.lemmas.Option.{slice_get-get_or, slice_get_past}
 use Rattle.std.proofs.lemmas.Bool.{cases_lt, and_right, eq-eqb}
@@ -11,7 +11,6 @@ use Rattle.plan.specs.Bounded.{absent, count, task}
 use Rattle.plan.specs.TaskSet.{Parameters, TaskSet, job_work}
 use Rattle.edf.specs.Plans.{D, W, released}
 use Rattle.service.specs.Rows.{released_job}
-use Rattle.service.specs.declared.backlog.Pending.{Pending}
 
 module _ (tasks : TaskSet) (i : ℕ) where
   -- a task by its number

@@ -1,4 +1,4 @@
-use Rattle.std.proofs.Common.{◌≡◌, ℕ, List, [], map, sym, arith}
+use Rattle.std.proofs.Common.{[], map, sym}
 use lib.ListN.{length-map}
 use Rattle.std.proofs.lemmas.List.{get_or-map, get_or_past}
 use Rattle.runner.proofs.replay.book_at.Goals as goal

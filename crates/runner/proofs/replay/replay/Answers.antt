@@ -1,10 +1,10 @@
-use Rattle.std.proofs.Common.{◌≡◌, ℕ, ◌+◌, ◌<◌, min, List, [], ◌∷◌, ◌++◌, map, length, get_or, take, drop, set, sym, refl, ap, ◌∙◌, subst, ap₂, arith}
+use Rattle.std.proofs.Common.{◌≡◌, ℕ, ◌+◌, ◌<◌, min, List, [], ◌∷◌, ◌++◌, map, length, get_or, take, drop, sym, refl, ap, ◌∙◌, subst, ap₂, arith}
 use Rattle.std.proofs.lemmas.List.{take_more_set, drop-set-lt, drop-drop}
 use Rattle.std.specs.List.{AllByRecursion}
 use Rattle.pattern.specs.Policy.{Meaning}
 use Rattle.runner.proofs.Reaching.{kept_by, run_none, replies_none, run_more, replies_more, bytes_more}
 use Rattle.runner.specs.Boards.{state}
-use Rattle.runner.specs.Calls.{OfBytes, Action, action, actions}
+use Rattle.runner.specs.Calls.{OfBytes, action, actions}
 use Rattle.runner.specs.Promise.{Promise}
 use Rattle.runner.specs.declared.call.Call.{Call}
 use Rattle.runner.specs.Rules.{State, reply, next, run, replies}

@@ -1,4 +1,4 @@
-use Rattle.std.proofs.Common.{◌≡◌, true, sym, ap, ◌∙◌, ap₂}
+use Rattle.std.proofs.Common.{◌∙◌, ap₂}
 use Rattle.plan.specs.TaskSet.{TaskSet, Parameters, task_set, parameters, job_work}
 use Rattle.pattern.specs.Policy.{Meaning}
 use Rattle.service.proofs.Releasing.{task_missing, released_past, no_job, released_by, the_job}

@@ -1,4 +1,4 @@
-use Rattle.std.proofs.Common.{◌≡◌, ℕ, ◌/◌, ◌%◌, ◌^◌, ◌<◌, sym, ap, ◌∙◌, arith}
+use Rattle.std.proofs.Common.{ℕ, ◌/◌, ◌%◌, sym, ap, ◌∙◌, arith}
 use Rattle.pattern.proofs.Policies.{mandatory_are_marked}
 use Rattle.pattern.specs.Policy.{Meaning, mandatory}
 use Rattle.service.proofs.Releasing.{divided}

@@ -6,7 +6,7 @@ use Rattle.plan.proofs.Added.{full_is_refused, room_leaves_the_record}
 use Rattle.plan.proofs.Answered.{fault_of_err, fault_of_ok, value_of_ok, answer_refused, answer_accepted, left_refused, left_accepted}
 use Rattle.plan.proofs.Listed.{tasks_are_count}
 use Rattle.plan.specs.Checks.{with_task, parameters_of, record_fault}
-use Rattle.plan.specs.Refusals.{answer, left, in_plan}
+use Rattle.plan.specs.Refusals.{in_plan}
 use Rattle.plan.specs.TaskSet.{TaskSet, task_set}
 use Rattle.plan.specs.declared.draft.Draft.{Draft}
 use Rattle.plan.specs.declared.fault.Place.TheVariants as place

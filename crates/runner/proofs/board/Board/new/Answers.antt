@@ -1,4 +1,4 @@
-use Rattle.std.proofs.Common.{◌≡◌, None}
+use Rattle.std.proofs.Common.{None}
 use Rattle.plan.specs.TaskSet.{task_set}
 use Rattle.runner.proofs.board.Board.new.Goals as goal
 

@@ -1,4 +1,4 @@
-use Rattle.std.proofs.Common.{◌≡◌, refl, ap, rules}
+use Rattle.std.proofs.Common.{refl, ap}
 use Rattle.pattern.specs.Policy.{Meaning}
 use Rattle.runner.proofs.Reaching.{goes_on}
 use Rattle.runner.specs.Boards.{state}

@@ -1,12 +1,12 @@
-use Rattle.std.proofs.Common.{◌≡◌, ℕ, ◌<◌, List, None, Ok, Err, sym, refl, ap, ◌∙◌, arith, rules}
+use Rattle.std.proofs.Common.{ℕ, ◌<◌, List, Ok, Err, sym, refl, ap, ◌∙◌, arith, rules}
 use Rattle.std.proofs.lemmas.Result.{err_from_is_err_and}
 use Rattle.std.proofs.lemmas.Bool.{true≢false}
 use Rattle.plan.proofs.Answered.{fault_of_err, fault_of_ok, left_accepted}
-use Rattle.plan.specs.TaskSet.{TaskSet, task_set}
+use Rattle.plan.specs.TaskSet.{task_set}
 use Rattle.book.specs.Bytes.{byte}
 use Rattle.book.specs.Reading.{read_fault, decoded}
 use Rattle.pattern.specs.Policy.{Meaning}
-use Rattle.runner.proofs.Loading.{ByTheRules, unread, read_and_started, answered_right}
+use Rattle.runner.proofs.Loading.{unread, read_and_started, answered_right}
 use Rattle.runner.specs.Boards.{state}
 use Rattle.runner.specs.Promise.{taken}
 use Rattle.runner.specs.declared.fault.StartFault.{StartFault}

@@ -1,10 +1,10 @@
-use Rattle.std.proofs.Common.{◌≡◌, ℕ, List, [], map, sym, ap, ◌∙◌, subst}
+use Rattle.std.proofs.Common.{◌≡◌, ℕ, List, map, sym, ap, ◌∙◌, subst}
 use Rattle.book.specs.Reading.{read_fault, decoded}
 use Rattle.pattern.specs.Policy.{Meaning}
 use Rattle.admission.specs.Verdicts.{verdict}
 use Rattle.runner.proofs.Judging.{loaded_or_kept}
 use Rattle.runner.specs.Boards.{state}
-use Rattle.runner.specs.Calls.{Action, load, OfBytes, action}
+use Rattle.runner.specs.Calls.{load, OfBytes, action}
 use Rattle.runner.specs.Promise.{taken}
 use Rattle.runner.specs.Rules.{State, reply, next}
 use Rattle.runner.specs.declared.call.Answer.TheVariants as said

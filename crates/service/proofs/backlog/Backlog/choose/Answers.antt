@@ -1,4 +1,4 @@
-use Rattle.std.proofs.Common.{◌≡◌, ℕ, ap, ◌∙◌, arith}
+use Rattle.std.proofs.Common.{◌≡◌, ap, ◌∙◌, arith}
 use Rattle.plan.specs.Bounded.{count}
 use Rattle.plan.specs.TaskSet.{TaskSet, task_set}
 use Rattle.edf.proofs.Choice.{choose_earliest}

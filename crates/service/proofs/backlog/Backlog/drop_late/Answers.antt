@@ -1,11 +1,11 @@
 -- A late row loses its work and sets its bit; any other is left as it is.
-use Rattle.std.proofs.Common.{◌≡◌, ℕ, ◌<◌, Bool, true, false, get_or, sym, ap, ◌∙◌, arith}
+use Rattle.std.proofs.Common.{◌≡◌, ℕ, ◌<◌, get_or, sym, ap, ◌∙◌, arith}
 use Rattle.plan.specs.Bounded.{count}
 use Rattle.plan.specs.TaskSet.{task_set}
 use Rattle.edf.specs.Tick.{late}
 use Rattle.service.proofs.Masks.{mask_with, mask_without, mask_fits}
 use Rattle.service.proofs.Rowwise.{stepped_next, stepped_more, stepped_over}
-use Rattle.service.proofs.Stepping.{dropped, drops_late, dropped_late, dropped_timely, late_by_row}
+use Rattle.service.proofs.Stepping.{dropped, dropped_late, dropped_timely, late_by_row}
 use Rattle.service.specs.Rows.{idle, row, view, overdue}
 use Rattle.service.proofs.backlog.Backlog.drop_late.Goals as goal
 use Rattle.service.proofs.backlog.Backlog.drop_late.Goals.{then-is_late, else-is_late}

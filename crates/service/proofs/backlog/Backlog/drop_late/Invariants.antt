@@ -1,4 +1,4 @@
-use Rattle.std.proofs.Common.{◌≡◌, ◌^◌, ◌<◌}
+use Rattle.std.proofs.Common.{◌≡◌}
 use Rattle.plan.specs.TaskSet.{task_set}
 use Rattle.edf.specs.Tick.{late}
 use Rattle.service.proofs.Rowwise.{Stepped}

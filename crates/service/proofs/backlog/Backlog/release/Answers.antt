@@ -1,10 +1,10 @@
-use Rattle.std.proofs.Common.{◌≡◌, ℕ, get_or, Some, None, sym, ap, ◌∙◌, arith}
+use Rattle.std.proofs.Common.{◌≡◌, ℕ, sym, ap, arith}
 use Rattle.plan.specs.Bounded.{count}
 use Rattle.plan.specs.TaskSet.{TaskSet, task_set}
 use Rattle.pattern.specs.Policy.{Meaning}
-use Rattle.service.proofs.Rowwise.{Stepped, stepped_more, stepped_over}
+use Rattle.service.proofs.Rowwise.{stepped_more, stepped_over}
 use Rattle.service.proofs.Stepping.{opened, releases_jobs}
-use Rattle.service.specs.Rows.{idle, row, released_job}
+use Rattle.service.specs.Rows.{row, released_job}
 use Rattle.service.specs.declared.backlog.Pending.{Pending}
 use Rattle.service.proofs.backlog.Backlog.release.Goals as goal
 use Rattle.service.proofs.backlog.Backlog.release.Goals.{in-Some, in_default}

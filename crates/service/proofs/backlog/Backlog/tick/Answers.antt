@@ -1,8 +1,7 @@
-use Rattle.std.proofs.Common.{◌≡◌, ℕ, ◌<◌, true, false, eqb, Some, None, Option, sym, refl, ap, ◌∙◌, arith}
+use Rattle.std.proofs.Common.{◌≡◌, ℕ, eqb, Some, Option, sym, ap, ◌∙◌, arith}
 use Rattle.plan.proofs.Bounding.{plan_is_bounded}
 use Rattle.plan.specs.Bounded.{count}
 use Rattle.plan.specs.TaskSet.{TaskSet, task_set}
-use Rattle.pattern.specs.Policy.{Meaning}
 use Rattle.edf.specs.Plans.{system}
 use Rattle.edf.specs.System.{System}
 use Rattle.edf.specs.Tick.{Counters, release, serve, ended}
