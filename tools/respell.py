@@ -4,8 +4,8 @@
 usage: tools/respell.py [--list]      at the top of the repository; --list prints the names and changes nothing
 
 A name is the repository's own if a file of crates/*/specs or crates/*/proofs defines it: at the head of a signature, as a
-field or as a constructor. Names that the checker makes of the code (loop-i-preserved) keep their dashes. Names that would
-fall together with another are printed, and nothing is written then.
+field or as a constructor. Names that the checker makes of the code (loop-i-preserved) keep their dashes. A new name that
+two old ones would share, or that already stands in some file, is printed to be looked at; the files are written all the same.
 """
 
 import pathlib

@@ -63,7 +63,7 @@ module _ (plan : Plan) (policy : Meaning) where
   -- where the span from n is not overloaded the search goes on, and n is not the last start to try
   pub goes_on : (e n work : ℕ) → is_some (last_overload (task_set plan) policy e) ≡ true → start_below S e e ≡ start_below S e (n + 1) →
       work ≡ span_work S n e → work ≤ e - n → (start_below S e e ≡ start_below S e n) × (0 < n)
-  goes_on e n work some came is fits = let came-here = came ∙ not_here S e n (omega arith) in (came-here, below n came-here)
+  goes_on e n work some came is fits = let came_here = came ∙ not_here S e n (omega arith) in (came_here, below n came_here)
     where
       below : (n : ℕ) → start_below S e e ≡ start_below S e n → 0 < n
       below zero came =

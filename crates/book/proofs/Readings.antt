@@ -67,7 +67,7 @@ module _ (book : List ℕ) (w : Walk) (opened : Ok w ≡ answer (open_fault book
   pub refused_by_record : (set : TaskSet) (f : RecordFault) → Err f ≡ answer (first_fault w.book (records w.book)) set → read_fault book ≡ Some (in_book f)
   refused_by_record set f e = refused_at_record book passed_blocks (sym first_there ∙ fault_of_err _ set f e)
 
-  module _ (ratio : ℕ × ℕ) (set : TaskSet) (geared-so : Some ratio ≡ geared (byte book 4) (byte book 5))
+  module _ (ratio : ℕ × ℕ) (set : TaskSet) (geared_so : Some ratio ≡ geared (byte book 4) (byte book 5))
       (all : Ok set ≡ answer (first_fault w.book (records w.book)) (holding w.book ratio.0 ratio.1)) where
     pub passed_all : read_fault book ≡ None
     passed_all = accepted book passed_blocks (sym first_there ∙ fault_of_ok _ (holding w.book ratio.0 ratio.1) set all)

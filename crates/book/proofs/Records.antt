@@ -103,11 +103,11 @@ module _ (xs : List ℕ) (passed : record_error xs ≡ None) where
       let w = or_parts _ _ c.work in
       let m = or_parts _ _ c.constraint in
       let k = or_parts _ _ m.1 in
-      let some-work = eqb-false _ 0 w.0 in
-      let some-m = eqb-false _ 0 m.0 in
+      let some_work = eqb-false _ 0 w.0 in
+      let some_m = eqb-false _ 0 m.0 in
       record {
-        timed = (at_least_one _ some-work, ltb-false _ _ w.1, ltb-false _ _ d.1, two_bytes_at_most (byte xs 0) (byte xs 1) low high);
-        constrained = (at_least_one _ some-m, ltb-false _ _ k.0, ltb-false _ _ k.1);
+        timed = (at_least_one _ some_work, ltb-false _ _ w.1, ltb-false _ _ d.1, two_bytes_at_most (byte xs 0) (byte xs 1) low high);
+        constrained = (at_least_one _ some_m, ltb-false _ _ k.0, ltb-false _ _ k.1);
       }
     where
       two_bytes_at_most : (low high : ℕ) → low < 256 → high < 256 → low + high * 256 ≤ 65535

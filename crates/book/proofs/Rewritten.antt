@@ -195,7 +195,7 @@ module _ (book : List ℕ) (fit : Bytes book) (passed : read_fault book ≡ None
 
   -- a block of the book
   module _ (i n : ℕ) (b : List ℕ) (same : block_of book i ≡ b) (long : length b ≡ 512) (inside : 512 * i + 512 ≤ length book) (sound : Sound b i n)
-      (most : byte b 3 ≤ 15) (in-set : (r : ℕ) → r < byte b 3 → 15 * i + r < N) (past-set : (r : ℕ) → byte b 3 ≤ r → r < 15 → N ≤ 15 * i + r) where
+      (most : byte b 3 ≤ 15) (in_set : (r : ℕ) → r < byte b 3 → 15 * i + r < N) (past_set : (r : ℕ) → byte b 3 ≤ r → r < 15 → N ≤ 15 * i + r) where
     block_fits : Bytes b
     block_fits j = ⊎_elim
         (λ below. subst (λ x. x < 256) (sym (byte_of_block book i j below) ∙ ap (λ x. byte x j) same) (fit (512 * i + j)))
@@ -214,11 +214,11 @@ module _ (book : List ℕ) (fit : Bytes book) (passed : read_fault book ≡ None
     its_slot : (r : ℕ) → r < 15 → slot_at set i r ≡ part b (32 + 32 * r) 32
     unfolding N
     its_slot r below = ⊎_elim
-        (λ low. ap slot (its_task (15 * i + r) (in-set r low)) ∙
+        (λ low. ap slot (its_task (15 * i + r) (in_set r low)) ∙
         ap (λ x. record_bytes (parameters_of (draft_of x))) (there r below) ∙
         record_again (part b (32 + 32 * r) 32) (part_long b (32 + 32 * r) 32 (omega arith)) (bytes_of_part b (32 + 32 * r) 32 block_fits)
-        (sym (ap record_error (there r below)) ∙ record_clean (15 * i + r) (in-set r low)))
-        (λ high. ap slot (slice_get_past set.tasks (15 * i + r) (omega (arith, counted, past-set r high below))) ∙
+        (sym (ap record_error (there r below)) ∙ record_clean (15 * i + r) (in_set r low)))
+        (λ high. ap slot (slice_get_past set.tasks (15 * i + r) (omega (arith, counted, past_set r high below))) ∙
         sym (zeros_are_zero (part b (32 + 32 * r) 32) (zero_there r high) ∙ ap (λ k. replicate k 0) (part_long b (32 + 32 * r) 32 (omega arith))))
         (cases_lt r (byte b 3))
       where

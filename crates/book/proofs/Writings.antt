@@ -51,10 +51,10 @@ module _ (f : ℕ → List ℕ) where
       → over now (h + w * n) (f n) ≡ front ++ (in_turn f (n + 1) ++ drop (h + w * (n + 1)) xs)
   turn_put w h each front xs now n long held =
       let so_far : List ℕ = front ++ in_turn f n in
-      let so-far-long : length so_far ≡ h + w * n = length-append front (in_turn f n) ∙ omega (arith, turn_long w each n) in
+      let so_far_long : length so_far ≡ h + w * n = length-append front (in_turn f n) ∙ omega (arith, turn_long w each n) in
       let next : h + w * n + length (f n) ≡ h + w * (n + 1) = omega (arith, each n, ap (λ k. w * k) (add-one n), mul-suc w n) in
       ap (λ x. over x (h + w * n) (f n)) (held ∙ sym (append_assoc front (in_turn f n) (drop (h + w * n) xs))) ∙
-      over_after so_far (drop (h + w * n) xs) (f n) (h + w * n) so-far-long ∙
+      over_after so_far (drop (h + w * n) xs) (f n) (h + w * n) so_far_long ∙
       ap (λ d. so_far ++ (f n ++ d)) (drop-drop (length (f n)) (h + w * n) xs ∙ ap (λ k. drop k xs) next) ∙
       append_assoc front (in_turn f n) (f n ++ drop (h + w * (n + 1)) xs) ∙
       ap (λ x. front ++ x) (sym (append_assoc (in_turn f n) (f n) (drop (h + w * (n + 1)) xs)) ∙ ap (λ t. t ++ drop (h + w * (n + 1)) xs) (sym (turn_more n)))
@@ -92,12 +92,12 @@ module _ (set : TaskSet) (i blocks : ℕ) (B : List ℕ) (long : length B ≡ 51
       → s ≡ total c 128 % 4294967296 → n ≡ check_of s → chk ≡ bytes32 n → d ≡ over c 28 chk → d ≡ block_bytes set i blocks
   unfolding block_bytes
   with_check c d chk n s held sum check bytes written =
-      let n-is : n ≡ check_of (total (head_of set i blocks) 7 + total (records_of set i) 120) = omega (arith, sum_of_parts c held) in
+      let n_is : n ≡ check_of (total (head_of set i blocks) 7 + total (records_of set i) 120) = omega (arith, sum_of_parts c held) in
       written ∙
       ap (λ x. over x 28 chk) held ∙
       over_after (head_of set i blocks) (replicate 4 0 ++ records_of set i) chk 28 refl ∙
       ap (λ x. head_of set i blocks ++ (x ++ drop (length x) (replicate 4 0 ++ records_of set i))) bytes ∙
-      ap (λ k. head_of set i blocks ++ (bytes32 k ++ records_of set i)) n-is
+      ap (λ k. head_of set i blocks ++ (bytes32 k ++ records_of set i)) n_is
 
 pub block_long : (set : TaskSet) (i blocks : ℕ) → length (block_bytes set i blocks) ≡ 512
 unfolding block_bytes

@@ -1,5 +1,5 @@
 -- What each job of a plan gets, counted by the ticks answered and the reports accepted.
-use Rattle.std.proofs.Common.{◌≡◌, ℕ, suc, ◌+◌, ◌-◌, ◌*◌, ◌/◌, ◌<◌, ◌≤◌, Bool, true, false, cond, ◌&&◌, eqb, leb, is_some as option_is_some, Some, None, Option, sym, refl, ap, ◌∙◌, ⊎_elim, arith}
+use Rattle.std.proofs.Common.{◌≡◌, ℕ, suc, ◌+◌, ◌-◌, ◌*◌, ◌/◌, ◌<◌, ◌≤◌, Bool, true, false, cond, ◌&&◌, eqb, leb, is_some, Some, None, Option, sym, refl, ap, ◌∙◌, ⊎_elim, arith}
 use Rattle.std.proofs.lemmas.Nat.{div-mul-add, div_below}
 use Rattle.std.proofs.lemmas.Bool.Decides.{nat_tests}
 use Rattle.std.proofs.lemmas.Bool.{cases_lt, cases_Bool, eqb-true, eq-eqb, ltb-true, lt-ltb, leb-true, le-leb, and_parts, and_from, or_cases, or_left, or_right, cond-false, both_ways, false≢true}
@@ -20,9 +20,9 @@ use Rattle.edf.proofs.JobService.{jobs_met, no_job_overserved, ticks_belong, rep
 use Rattle.edf.proofs.Releases.{room, constraint_in_range, release_of_job, job_of_release, plan_is_sound}
 use Rattle.edf.proofs.Verdicts.{fits_by_ticks}
 
-is_some : (o : Option ℕ) (i : ℕ) → is o i ≡ true → o ≡ Some i
-is_some None i e = grind (arith, nat_tests)
-is_some (Some k) i e = ap Some (eqb-true k i e)
+is_gives_some : (o : Option ℕ) (i : ℕ) → is o i ≡ true → o ≡ Some i
+is_gives_some None i e = grind (arith, nat_tests)
+is_gives_some (Some k) i e = ap Some (eqb-true k i e)
 
 some_is : (o : Option ℕ) (i : ℕ) → o ≡ Some i → is o i ≡ true
 some_is o i e = ap (λ x. is x i) e ∙ eq-eqb i i refl
@@ -77,11 +77,11 @@ module _ (set : TaskSet) (policy : Meaning) (bounded : Bounded set) (i : ℕ) (h
           sum_le (D set i - 1) (λ k. cond (is (told (u + k)) i) 1 0) (λ k. f (u + k)) each,
         ))
       where
-        counted : (t s : Option ℕ) (b : Bool) → b ≡ true → (t ≡ Some i → s ≡ Some i) → cond (is t i) 1 0 ≤ cond (option_is_some t && (is s i && b)) 1 0
+        counted : (t s : Option ℕ) (b : Bool) → b ≡ true → (t ≡ Some i → s ≡ Some i) → cond (is t i) 1 0 ≤ cond (is_some t && (is s i && b)) 1 0
         counted None s b here same = grind (arith, nat_tests)
         counted (Some k) s b here same =
             ⊎_elim
-            (λ yes. let q = some_is s i (same (is_some (Some k) i yes)) in grind (arith, nat_tests))
+            (λ yes. let q = some_is s i (same (is_gives_some (Some k) i yes)) in grind (arith, nat_tests))
             (λ other. grind (arith, nat_tests))
             (cases_Bool (eqb k i))
 
@@ -121,7 +121,7 @@ module _ (set : TaskSet) (policy : Meaning) (bounded : Bounded set) (N : ℕ) (s
   given : (i j n : ℕ) → belongs set served i j n ≡ true → Given i j n
   given i j n b =
       let parts = and_parts (is (served n) i) (eqb (n / T set i) j) b in
-      let mine : served n ≡ Some i = is_some (served n) i parts.0 in
+      let mine : served n ≡ Some i = is_gives_some (served n) i parts.0 in
       let answered : n < N = ⊎_elim (λ l. l) (λ late. absurd (nobody (log.later n late) mine)) (cases_lt n N) in
       let whose : who (system set policy) told n ≡ Some i = sym (log.ticks n answered) ∙ mine in
       let (here, (u, r, since)) = ticks_belong.some (system set policy) (plan_is_sound set policy bounded) told n i whose in
@@ -163,14 +163,14 @@ module _ (set : TaskSet) (policy : Meaning) (bounded : Bounded set) (N : ℕ) (s
 
   in_time : Fits set policy → (i j n : ℕ) → report_for set served told i j n ≡ true → suc n < job_deadline set i j
   in_time fits i j n r =
-      let parts = and_parts (option_is_some (told n)) (belongs set served i j n) r in
+      let parts = and_parts (is_some (told n)) (belongs set served i j n) r in
       let g = given i j n parts.1 in
       reports_in_time (system set policy) (plan_is_sound set policy bounded) (fits_by_ticks set policy bounded fits) told log.reports n i (j * T set i)
       (named (told n) parts.0 (λ k t. (log.reports n k t).0) g.since.serves)
       (release_of_job set policy bounded i g.here j ∙ g.job)
       g.since
     where
-      named : (o : Option ℕ) → option_is_some o ≡ true → ((k : ℕ) → o ≡ Some k → who (system set policy) told n ≡ Some k) → who (system set policy) told n ≡ Some i → o ≡ Some i
+      named : (o : Option ℕ) → is_some o ≡ true → ((k : ℕ) → o ≡ Some k → who (system set policy) told n ≡ Some k) → who (system set policy) told n ≡ Some i → o ≡ Some i
       named None some same mine = absurd (false≢true some)
       named (Some k) some same mine = sym (same k refl) ∙ mine
 

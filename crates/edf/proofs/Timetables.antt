@@ -62,7 +62,7 @@ serves_iff_never_overloaded S sound = (never_overloaded, λ fits. (who S silent,
         let N = S.count in
         let before : s ≤ e = omega (arith, over.proper) in
         let asked_by : ℕ → ℕ → ℕ = λ n i. Sum n (λ u. work_due S e u i) in
-        let got-by : ℕ → ℕ → ℕ = λ n i. Sum n (given t i) in
+        let got_by : ℕ → ℕ → ℕ = λ n i. Sum n (given t i) in
         let ticks : ℕ → ℕ = λ n. Sum N (λ i. given t i n) in
         omega (
           arith,
@@ -71,9 +71,9 @@ serves_iff_never_overloaded S sound = (never_overloaded, λ fits. (who S silent,
           sum_swaps e N (work_due S e),
           sum_swaps s N (λ n i. given t i n),
           sum_swaps e N (λ n i. given t i n),
-          sum_plus N (asked_by e) (got-by s),
-          sum_plus N (asked_by s) (got-by e),
-          sum_le N (λ i. asked_by e i + got-by s i) (λ i. asked_by s i + got-by e i) (λ i task. task_fits S sound t serves e i task e s before (omega arith)),
+          sum_plus N (asked_by e) (got_by s),
+          sum_plus N (asked_by s) (got_by e),
+          sum_le N (λ i. asked_by e i + got_by s i) (λ i. asked_by s i + got_by e i) (λ i task. task_fits S sound t serves e i task e s before (omega arith)),
           sum_from s e ticks before,
           sum_of_ones (e - s) (λ k. ticks (s + k)) (λ k. one_at_most N (t (s + k))),
         )

@@ -32,8 +32,8 @@ unfolding new
 returns-in_err-task c =
     let p : Plan = c.args.self.now in
     let exit = err_from_is_err_and c.from_residual.result c.from_residual.ensures.1 in
-    let record-refused = fault_of_err (record_fault c.args.draft (place.Task p.count)) (parameters_of c.args.draft) _ c.in_err-task.ensures in
-    let refused = room_leaves_the_record p c.args.draft c.if-number-ge-ROWS.false ∙ ap (option_map in_plan) record-refused in
+    let record_refused = fault_of_err (record_fault c.args.draft (place.Task p.count)) (parameters_of c.args.draft) _ c.in_err-task.ensures in
+    let refused = room_leaves_the_record p c.args.draft c.if-number-ge-ROWS.false ∙ ap (option_map in_plan) record_refused in
     record {
       answer = exit.1 ∙ ap Err exit.2 ∙ answer_refused _ refused;
       after = left_refused (new p c.args.draft) (task_set p) refused;
@@ -44,8 +44,8 @@ pub returns : goal.returns
 unfolding new
 returns c =
     let p : Plan = c.args.self.now in
-    let record-passed = fault_of_ok (record_fault c.args.draft (place.Task p.count)) (parameters_of c.args.draft) _ c.in_ok-task.ensures in
-    let accepted = room_leaves_the_record p c.args.draft c.if-number-ge-ROWS.false ∙ ap (option_map in_plan) record-passed in
+    let record_passed = fault_of_ok (record_fault c.args.draft (place.Task p.count)) (parameters_of c.args.draft) _ c.in_ok-task.ensures in
+    let accepted = room_leaves_the_record p c.args.draft c.if-number-ge-ROWS.false ∙ ap (option_map in_plan) record_passed in
     let value = value_of_ok (record_fault c.args.draft (place.Task p.count)) (parameters_of c.args.draft) _ c.in_ok-task.ensures in
     record {
       answer = ap Ok (sym (tasks_are_count p)) ∙ answer_accepted _ accepted;
