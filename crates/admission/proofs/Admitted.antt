@@ -1,5 +1,5 @@
 -- What the cycle, the first miss and the last overload found say is the verdict.
-use Rattle.std.proofs.Common.{◌≡◌, ℕ, ◌≤◌, Bool, true, false, cond, ltb, is_some, Some, None, Option, sym, refl, ap, ◌∙◌, subst, arith}
+use Rattle.std.proofs.Common.{◌≡◌, ℕ, ◌≤◌, Bool, true, false, cond, ltb, Some, None, Ok, Err, Option, Result, sym, refl, ap, ◌∙◌, subst, arith}
 use Rattle.std.specs.Option.{option_map}
 use Rattle.std.proofs.lemmas.Bool.{ltb-false}
 use Rattle.plan.proofs.Bounding.{plan_is_bounded}
@@ -8,15 +8,15 @@ use Rattle.plan.specs.TaskSet.{TaskSet, task_set}
 use Rattle.plan.specs.declared.fault.Overload.{Overload}
 use Rattle.plan.specs.declared.plan.Plan.{Plan}
 use Rattle.pattern.specs.Policy.{Meaning, Lawful}
-use Rattle.edf.specs.Admission.{CycleOf, cycle_of, RefusedSpan}
+use Rattle.edf.specs.Admission.{CycleOf, cycle_of}
 use Rattle.edf.specs.Plans.{system}
-use Rattle.edf.specs.Refusal.{Span, refused, start_below}
+use Rattle.edf.specs.Refusal.{Span, refused}
 use Rattle.edf.proofs.Verdicts.{plan_cycle_found, plan_one_cycle_is_enough, plan_cycle_run_decides}
 use Rattle.admission.specs.Judgement.{Right}
 use Rattle.admission.specs.Searches.{FirstMiss, last_overload}
 use Rattle.admission.specs.Verdicts.{verdict, judged, overload_of}
-use Rattle.admission.specs.declared.verdict.Verdict.{Verdict}
-use Rattle.admission.specs.declared.verdict.Verdict.TheVariants.{TooLong, Overloaded, Accepted}
+use Rattle.admission.specs.declared.fault.StartFault.{StartFault}
+use Rattle.admission.specs.declared.fault.StartFault.TheVariants.{TooLong, Overloaded}
 use Rattle.admission.proofs.Judged.{verdict_is_right}
 
 module _ (plan : Plan) {policy : Meaning} (lawful : Lawful policy) where
@@ -36,54 +36,64 @@ module _ (plan : Plan) {policy : Meaning} (lawful : Lawful policy) where
   is_cycle : CycleOf set policy H
   is_cycle = (plan_cycle_found.only set policy bounded lawful H).1 refl
 
-  pub right_as_defined : (said : Verdict) → said ≡ verdict set policy → Right set policy said
+  pub right_as_defined : (said : Result ℕ StartFault) → said ≡ verdict set policy → Right set policy said
   right_as_defined said defined = subst (Right set policy) (sym defined) (verdict_is_right set policy bounded lawful)
 
-  pub too_long : None ≡ admissible → TooLong ≡ verdict set policy
+  pub too_long : None ≡ admissible → Err TooLong ≡ verdict set policy
   unfolding verdict
   too_long none = at (ltb 1048576 H) none
     where
-      at : (long : Bool) → None ≡ cond long None (Some H) → TooLong ≡ cond long TooLong (judged set policy (refused (system set policy) H))
+      at : (long : Bool) → None ≡ cond long None (Some H) → Err TooLong ≡ cond long (Err TooLong) (judged set policy (refused (system set policy) H))
       at true e = refl
-      at false e = let z : ◌≡◌ {A = ℕ} 0 1 = cc in absurd (omega arith)
+      at false e = cc
 
-  short : (h : ℕ) → Some h ≡ admissible → (h ≡ H) × (ltb 1048576 H ≡ false)
-  short h some = at (ltb 1048576 H) some
+  pub cycle_found : (h : ℕ) → Some h ≡ admissible → (h ≡ H) × (h ≤ 1048576) × (ltb 1048576 H ≡ false)
+  cycle_found h some = at (ltb 1048576 H) refl some
     where
-      at : (long : Bool) → Some h ≡ cond long None (Some H) → (h ≡ H) × (long ≡ false)
-      at true e = let z : ◌≡◌ {A = ℕ} 0 1 = cc in absurd (omega arith)
-      at false e = (cc, refl)
+      at : (long : Bool) → ltb 1048576 H ≡ long → Some h ≡ cond long None (Some H) → (h ≡ H) × (h ≤ 1048576) × (long ≡ false)
+      at true t e = cc
+      at false f e = let same : h ≡ H = cc in (same, omega (arith, ltb-false 1048576 H f), refl)
 
-  pub cycle_short : (h : ℕ) → Some h ≡ admissible → h ≤ 1048576
-  cycle_short h some = let s = short h some in omega (arith, s.0, ltb-false 1048576 H s.1)
+  -- the refused span of the cycle, with its work
+  abbrev carried : ℕ → Option Overload
+  carried h = option_map (overload_of set policy) (refused (system set policy) h)
 
-  -- the verdict by the refused span
-  verdict_by : (h : ℕ) → Some h ≡ admissible → (x : Option Span) → refused (system set policy) H ≡ x → judged set policy x ≡ verdict set policy
-  unfolding verdict
-  verdict_by h some x is =
-      ap (judged set policy) (sym is) ∙ ap (λ b. cond b TooLong (judged set policy (refused (system set policy) H))) (sym (short h some).1)
-
-  pub accepted : (h : ℕ) → Some h ≡ admissible → FirstMiss (system set policy) h None → Accepted h ≡ verdict set policy
-  accepted h some never =
-      let same = (short h some).0 in
+  -- a run that meets no late task shows that there is none
+  pub none_refused : (h : ℕ) → h ≡ H → FirstMiss (system set policy) h None → None ≡ carried h
+  none_refused h same never =
       let none : refused (system set policy) H ≡ None =
       (plan_one_cycle_is_enough.admits set policy H bounded is_cycle).0 (λ s e over.
       let late = (plan_cycle_run_decides.late set policy H bounded is_cycle).1 (s, e, over) in
       never late.0 (omega (arith, late.1)) late.2) in
-      ap Accepted same ∙ verdict_by h some None none
+      rw same (ap (option_map (overload_of set policy)) (sym none))
 
-  module _ (h e : ℕ) (miss : FirstMiss (system set policy) h (Some e)) where
-    -- the last start of an overloaded span to where the first deadline is missed
-    last : (s : ℕ) × (start_below (system set policy) e e ≡ Some s) × RefusedSpan set policy s e
-    last = plan_cycle_run_decides.names set policy bounded e miss.1 miss.2
+  -- and where one meets a late task first, the last overloaded span to there is it
+  pub last_is_refused : (h e : ℕ) → h ≡ H → FirstMiss (system set policy) h (Some e) → last_overload set policy e ≡ carried h
+  last_is_refused h e same miss =
+      let last = plan_cycle_run_decides.names set policy bounded e miss.1 miss.2 in
+      let some : refused (system set policy) H ≡ Some (record { from = last.0; to = e }) =
+      (plan_one_cycle_is_enough.refuses set policy H bounded is_cycle last.0 e).0 last.2 in
+      ap (option_map (λ s. overload_of set policy (record { from = s; to = e }))) last.1
+      ∙ rw same (ap (option_map (overload_of set policy)) (sym some))
 
-    is_last : last_overload set policy e ≡ Some (overload_of set policy (record { from = last.0; to = e }))
-    is_last = ap (option_map (λ s. overload_of set policy (record { from = s; to = e }))) last.1
+  -- the verdict by the refused span
+  verdict_by : (h : ℕ) → Some h ≡ admissible → judged set policy (refused (system set policy) h) ≡ verdict set policy
+  unfolding verdict
+  verdict_by h some =
+      let found = cycle_found h some in
+      ap (λ k. judged set policy (refused (system set policy) k)) found.0
+      ∙ ap (λ b. cond b (Err TooLong) (judged set policy (refused (system set policy) H))) (sym found.2)
 
-    pub overload_found : is_some (last_overload set policy e) ≡ true
-    overload_found = ap is_some is_last
+  pub accepted : (h : ℕ) → Some h ≡ admissible → None ≡ carried h → Ok h ≡ verdict set policy
+  accepted h some none = at (refused (system set policy) h) none ∙ verdict_by h some
+    where
+      at : (x : Option Span) → None ≡ option_map (overload_of set policy) x → Ok h ≡ judged set policy x
+      at None e = ap Ok (cycle_found h some).0
+      at (Some x) e = cc
 
-    pub overloaded : Some h ≡ admissible → (o : Overload) → Some o ≡ last_overload set policy e → Overloaded o ≡ verdict set policy
-    overloaded some o found =
-        let same : o ≡ overload_of set policy (record { from = last.0; to = e }) = cc (is_last) in
-        ap Overloaded same ∙ verdict_by h some (Some (record { from = last.0; to = e })) ((plan_one_cycle_is_enough.refuses set policy H bounded is_cycle last.0 e).0 last.2)
+  pub overloaded : (h : ℕ) (o : Overload) → Some h ≡ admissible → Some o ≡ carried h → Err (Overloaded o) ≡ verdict set policy
+  overloaded h o some found = at (refused (system set policy) h) found ∙ verdict_by h some
+    where
+      at : (x : Option Span) → Some o ≡ option_map (overload_of set policy) x → Err (Overloaded o) ≡ judged set policy x
+      at None e = cc
+      at (Some x) e = cc

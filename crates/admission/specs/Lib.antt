@@ -1,3 +1,4 @@
 pub mod Verdicts
 pub mod Judgement
 pub mod Searches
+pub mod Refusals

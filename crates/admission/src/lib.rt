@@ -3,7 +3,7 @@
 
 pub mod admit;
 mod cycle;
+pub mod fault;
 mod misses;
 mod spans;
 pub mod theorems;
-pub mod verdict;

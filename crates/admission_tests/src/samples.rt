@@ -1,6 +1,6 @@
 // Plans, policies and verdicts that the tests use.
 use admission::admit::admit;
-use admission::verdict::Verdict;
+use admission::fault::StartFault;
 use pattern::policy::Pattern;
 use pattern::shifted::Shifted;
 use plan::draft::Draft;
@@ -49,8 +49,8 @@ pub fn shifted(first: u8, second: u8, third: u8) -> Shifted {
 }
 
 // The refusal of a span, with its work.
-pub fn span(start: u32, end: u32, work: u32) -> Verdict {
-    Verdict::Overloaded(Overload { start, end, work })
+pub fn span(start: u32, end: u32, work: u32) -> Result<u32, StartFault> {
+    Err(StartFault::Overloaded(Overload { start, end, work }))
 }
 
 // The verdict on the plan of these tasks with the ratio p/q is this one.
@@ -60,7 +60,7 @@ pub fn judged<P: Pattern>(
     p: u8,
     q: u8,
     drafts: &[Draft],
-    said: Verdict,
+    said: Result<u32, StartFault>,
 ) -> Result<(), Fail> {
     let plan = geared(p, q, drafts)?;
     assert_eq!(rt; admit(policy, &plan), said);

@@ -1,8 +1,10 @@
 pub mod Bounding
+pub mod Chunks
 pub mod Filled
+pub mod Joined
+pub mod Mended
 pub mod Opened
 pub mod Readings
-pub mod Recorded
 pub mod Records
 pub mod Refused
 pub mod Rewritten
@@ -12,4 +14,3 @@ pub mod Turns
 pub mod Walked
 pub mod Writings
 pub mod Written
-pub mod Zeros

@@ -19,14 +19,17 @@ pub record Good (t : Parameters) : Type 0 where
   pub timed : Timed t.period t.deadline t.work
   pub constrained : Constrained t.m t.k
 
+-- a speed's code gives the speed
 speed_back : (s : Speed) → speed_of (paced s 0 1) ≡ s
 speed_back High = refl
 speed_back Low = refl
 
+-- the code is 0 or 1
 speed_low : (s : Speed) → paced s 0 1 ≤ 1
 speed_low High = omega arith
 speed_low Low = omega arith
 
+-- the two bytes of a number give the number
 two_bytes : (n : ℕ) → n ≤ 65535 → n % 256 + n / 256 % 256 * 256 ≡ n
 two_bytes n fits = omega arith
 
@@ -34,6 +37,7 @@ two_bytes n fits = omega arith
 drafted : Parameters → Draft
 drafted t = record { period = t.period; deadline = t.deadline; work = t.work; m = t.m; k = t.k; speed = paced t.speed 0 1 }
 
+-- the record of a task holds the task's draft
 draft_back : (t : Parameters) → Good t → draft_of (record_bytes t) ≡ drafted t
 unfolding record_bytes drafted
 draft_back t good = λ i. record {
@@ -45,6 +49,7 @@ draft_back t good = λ i. record {
   speed = paced t.speed 0 1;
 }
 
+-- a draft in bounds has no error
 in_bounds : (d : Draft) → Timed d.period d.deadline d.work → Constrained d.m d.k → d.speed ≤ 1 → first_error d ≡ None
 in_bounds d t k s =
     goes_on Period (ne_eqb _ 0 (λ e. omega arith))
@@ -53,12 +58,14 @@ in_bounds d t k s =
     (goes_on Constraint (or_from (eqb d.m 0) _ (ne_eqb _ 0 (λ e. omega arith)) (or_from (ltb d.k d.m) _ (le-ltb _ _ (omega arith)) (le-ltb _ _ (omega arith))))
     (goes_on SpeedOrRest (le-ltb 1 d.speed s) refl))))
 
+-- the record of a task gives the task
 pub task_back : (t : Parameters) → Good t → parameters_of (draft_of (record_bytes t)) ≡ t
 unfolding drafted
 task_back t good =
     ap parameters_of (draft_back t good) ∙
     ap (λ (s : Speed). record { period = t.period; deadline = t.deadline; work = t.work; m = t.m; k = t.k; speed = s }) (speed_back t.speed)
 
+-- and it passes the checks
 pub record_passes : (t : Parameters) → Good t → record_error (record_bytes t) ≡ None
 unfolding record_bytes drafted
 record_passes t good =
@@ -68,9 +75,11 @@ record_passes t good =
 -- What a record that passes its checks tells.
 
 module _ (xs : List ℕ) (passed : record_error xs ≡ None) where
+  -- it passed the checks of its numbers and of its rest
   parts : (first_error (draft_of xs) ≡ None) × (refuse_if (not (all_zero (drop 9 xs))) SpeedOrRest None ≡ None)
   parts = both_pass (first_error (draft_of xs)) (refuse_if (not (all_zero (drop 9 xs))) SpeedOrRest None) passed
 
+  -- its rest is zero
   pub rest_passed : all_zero (drop 9 xs) ≡ true
   rest_passed = not-false (all_zero (drop 9 xs)) (went_on (not (all_zero (drop 9 xs))) SpeedOrRest None parts.1).0
 
@@ -82,6 +91,7 @@ module _ (xs : List ℕ) (passed : record_error xs ≡ None) where
     constraint : (eqb draft.m 0 || (ltb draft.k draft.m || ltb 32 draft.k)) ≡ false
     speed : ltb 1 draft.speed ≡ false
 
+  -- its numbers passed each check
   checks : Passed (draft_of xs)
   checks =
       let draft : Draft = draft_of xs in
@@ -92,6 +102,7 @@ module _ (xs : List ℕ) (passed : record_error xs ≡ None) where
       let e = went_on (ltb 1 draft.speed) SpeedOrRest None d.1 in
       record { period = a.0; deadline = b.0; work = c.0; constraint = d.0; speed = e.0 }
 
+  -- its speed is 0 or 1
   pub speed_passed : byte xs 8 ≤ 1
   speed_passed = ltb-false 1 (byte xs 8) checks.speed
 

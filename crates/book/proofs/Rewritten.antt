@@ -1,7 +1,9 @@
 -- An accepted book, written again, has the same bytes. Assumes nothing.
 use Rattle.std.proofs.Common.{◌≡◌, ℕ, zero, suc, ◌+◌, ◌-◌, ◌*◌, ◌/◌, ◌%◌, ◌<◌, ◌≤◌, true, cond, eqb, List, [], ◌∷◌, ◌++◌, length, take, drop, replicate, Some, None, Option, sym, refl, ap, ◌∙◌, subst, inl, inr, ⊎_elim, zero-add, add-one, arith}
 use Rattle.std.proofs.lemmas.List.FromFn.{get_or-map-range_with_len, length-map-range_with_len}
-use Rattle.std.proofs.lemmas.List.{drop-drop, get_or_past, length-drop, length-take-le, drop-take, take_all, take-append-drop, take_more, take-take}
+use Rattle.std.proofs.Math.Seq.{take-add}
+use Rattle.std.proofs.lemmas.List.{drop-drop, get_or_past, length-drop, length-take, length-take-le, take_all, take-append-drop, take_more}
+use Rattle.std.proofs.lemmas.Nat.{le_bytes_4}
 use Rattle.std.proofs.lemmas.Option.{slice_get-get_or, slice_get_past}
 use Rattle.std.proofs.lemmas.Bool.{and_parts, cases_lt, eqb-true, le-leb, lt-leb}
 use Rattle.std.specs.List.{slice_get}
@@ -26,8 +28,13 @@ use Rattle.book.specs.Writing.{block_bytes, blocks_for, check_of, encoded, head_
 abbrev pub Bytes : List ℕ → Type 0
 Bytes xs = (i : ℕ) → byte xs i < 256
 
-pub bytes_of_part : (xs : List ℕ) (a n : ℕ) → Bytes xs → (i : ℕ) → i < n → byte (part xs a n) i < 256
-bytes_of_part xs a n fit i inside = subst (λ b. b < 256) (sym (byte_of_part xs a n i inside)) (fit (a + i))
+-- the bytes of a part are bytes
+pub bytes_of_part : (xs : List ℕ) (a n : ℕ) → Bytes xs → Bytes (part xs a n)
+bytes_of_part xs a n fit i =
+    elim (cases_lt i n) [
+      | inl inside ↦ subst (λ b. b < 256) (sym (byte_of_part xs a n i inside)) (fit (a + i))
+      | inr past ↦ subst (λ b. b < 256) (sym (get_or_past (part xs a n) i 0 (simp length-take (omega arith)))) (omega arith)
+    ]
 
 -- the first bytes, one by one
 front_4 : (xs : List ℕ) → 4 ≤ length xs → take 4 xs ≡ byte xs 0 ∷ byte xs 1 ∷ byte xs 2 ∷ byte xs 3 ∷ []
@@ -37,12 +44,14 @@ front_4 xs long =
     ap (λ t. t ++ (byte xs 2 ∷ [])) (take_more xs 1 0 (omega arith) ∙
     ap (λ t. t ++ (byte xs 1 ∷ [])) (take_more xs 0 0 (omega arith))))
 
+-- six of them
 front_6 : (xs : List ℕ) → 6 ≤ length xs → take 6 xs ≡ byte xs 0 ∷ byte xs 1 ∷ byte xs 2 ∷ byte xs 3 ∷ byte xs 4 ∷ byte xs 5 ∷ []
 front_6 xs long =
     take_more xs 5 0 (omega arith) ∙
     ap (λ t. t ++ (byte xs 5 ∷ [])) (take_more xs 4 0 (omega arith) ∙
     ap (λ t. t ++ (byte xs 4 ∷ [])) (front_4 xs (omega arith)))
 
+-- nine of them
 front_9 : (xs : List ℕ) → 9 ≤ length xs → take 9 xs ≡ byte xs 0 ∷ byte xs 1 ∷ byte xs 2 ∷ byte xs 3 ∷ byte xs 4 ∷ byte xs 5 ∷ byte xs 6 ∷ byte xs 7 ∷ byte xs 8 ∷ []
 front_9 xs long =
     take_more xs 8 0 (omega arith) ∙
@@ -52,85 +61,72 @@ front_9 xs long =
 
 -- One record.
 
+-- a speed that was read is written as the same code
 speed_byte : (s : ℕ) → s ≤ 1 → paced (speed_of s) 0 1 ≡ s
 speed_byte zero low = refl
 speed_byte (suc zero) low = refl
 speed_byte (suc (suc s)) low = absurd (omega arith)
 
+-- the low byte of a word of two bytes
 low_byte : (a b : ℕ) → a < 256 → b < 256 → (a + b * 256) % 256 ≡ a
 low_byte a b p q = omega arith
 
+-- its high byte
 high_byte : (a b : ℕ) → a < 256 → b < 256 → (a + b * 256) / 256 % 256 ≡ b
 high_byte a b p q = omega arith
 
-pub record_again : (xs : List ℕ) → length xs ≡ 32 → ((i : ℕ) → i < 32 → byte xs i < 256) → record_error xs ≡ None → record_bytes (parameters_of (draft_of xs)) ≡ xs
+-- a record that passed is written with the same bytes
+pub record_again : (xs : List ℕ) → length xs ≡ 32 → Bytes xs → record_error xs ≡ None → record_bytes (parameters_of (draft_of xs)) ≡ xs
 unfolding record_bytes
 record_again xs long fit passed =
     let rest : replicate 23 0 ≡ drop 9 xs =
     ap (λ n. replicate n 0) (sym (length-drop 9 xs ∙ ap (λ n. n - 9) long)) ∙ sym (zeros_are_zero (drop 9 xs) (rest_passed xs passed)) in
     (λ i.
-    low_byte (byte xs 0) (byte xs 1) (fit 0 (omega arith)) (fit 1 (omega arith)) i ∷ high_byte (byte xs 0) (byte xs 1) (fit 0 (omega arith)) (fit 1 (omega arith)) i ∷
-    low_byte (byte xs 2) (byte xs 3) (fit 2 (omega arith)) (fit 3 (omega arith)) i ∷ high_byte (byte xs 2) (byte xs 3) (fit 2 (omega arith)) (fit 3 (omega arith)) i ∷
-    low_byte (byte xs 4) (byte xs 5) (fit 4 (omega arith)) (fit 5 (omega arith)) i ∷ high_byte (byte xs 4) (byte xs 5) (fit 4 (omega arith)) (fit 5 (omega arith)) i ∷
+    low_byte (byte xs 0) (byte xs 1) (fit 0) (fit 1) i ∷ high_byte (byte xs 0) (byte xs 1) (fit 0) (fit 1) i ∷
+    low_byte (byte xs 2) (byte xs 3) (fit 2) (fit 3) i ∷ high_byte (byte xs 2) (byte xs 3) (fit 2) (fit 3) i ∷
+    low_byte (byte xs 4) (byte xs 5) (fit 4) (fit 5) i ∷ high_byte (byte xs 4) (byte xs 5) (fit 4) (fit 5) i ∷
     byte xs 6 ∷ byte xs 7 ∷ speed_byte (byte xs 8) (speed_passed xs passed) i ∷ rest i) ∙
     ap (λ t. t ++ drop 9 xs) (sym (front_9 xs (omega arith))) ∙
     take-append-drop 9 xs
 
 -- One word.
 
-word_again : (xs : List ℕ) → length xs ≡ 4 → ((i : ℕ) → i < 4 → byte xs i < 256) → bytes32 (word32 xs 0) ≡ xs
-word_again xs long fit =
-    let a = fit 0 (omega arith) in
-    let b = fit 1 (omega arith) in
-    let c = fit 2 (omega arith) in
-    let d = fit 3 (omega arith) in
-    (λ i. digit_0 (byte xs 0) (byte xs 1) (byte xs 2) (byte xs 3) a b c d i ∷
-    digit_1 (byte xs 0) (byte xs 1) (byte xs 2) (byte xs 3) a b c d i ∷
-    digit_2 (byte xs 0) (byte xs 1) (byte xs 2) (byte xs 3) a b c d i ∷
-    digit_3 (byte xs 0) (byte xs 1) (byte xs 2) (byte xs 3) a b c d i ∷ []) ∙
-    sym (front_4 xs (omega arith)) ∙ take_all 4 xs (omega arith)
-  where
-    digit_0 : (a b c d : ℕ) → a < 256 → b < 256 → c < 256 → d < 256 → (a + b * 256 + c * 65536 + d * 16777216) % 256 ≡ a
-    digit_0 a b c d p q r s = omega arith
-
-    digit_1 : (a b c d : ℕ) → a < 256 → b < 256 → c < 256 → d < 256 → (a + b * 256 + c * 65536 + d * 16777216) / 256 % 256 ≡ b
-    digit_1 a b c d p q r s = omega arith
-
-    digit_2 : (a b c d : ℕ) → a < 256 → b < 256 → c < 256 → d < 256 → (a + b * 256 + c * 65536 + d * 16777216) / 65536 % 256 ≡ c
-    digit_2 a b c d p q r s = omega arith
-
-    digit_3 : (a b c d : ℕ) → a < 256 → b < 256 → c < 256 → d < 256 → (a + b * 256 + c * 65536 + d * 16777216) / 16777216 % 256 ≡ d
-    digit_3 a b c d p q r s = omega arith
+-- a word is written with the same bytes
+word_again : (xs : List ℕ) → length xs ≡ 4 → Bytes xs → bytes32 (word32 xs 0) ≡ xs
+word_again xs long fit = le_bytes_4 xs (word32 xs 0) long fit refl
 
 -- One block.
 
 module _ (b : List ℕ) (long : length b ≡ 512) (fit : Bytes b) (i n : ℕ) (sound : Sound b i n) (set : TaskSet)
     (count : used set i ≡ byte b 3) (p : cond (eqb i 0) set.p 0 ≡ byte b 4) (q : cond (eqb i 0) set.q 0 ≡ byte b 5)
     (slots : (r : ℕ) → r < 15 → slot_at set i r ≡ part b (32 + 32 * r) 32) where
+  -- the zeros of the head are those of the block
   zeros_22 : replicate 22 0 ≡ part b 6 22
   zeros_22 = sym (zeros_are_zero (part b 6 22) sound.reserved ∙ ap (λ k. replicate k 0) (part_long b 6 22 (omega arith)))
 
-  six_and_on : (xs : List ℕ) → take 6 xs ++ part xs 6 22 ≡ take 28 xs
-  six_and_on xs = ap (λ t. t ++ part xs 6 22) (sym (take-take 6 28 xs (omega arith))) ∙ ap (λ t. take 6 (take 28 xs) ++ t) (sym (drop-take 6 22 xs)) ∙ take-append-drop 6 (take 28 xs)
-
+  -- the head is written with the same bytes
   head_again : head_of set i n ≡ take 28 b
   head_again =
       (λ j. sym sound.kind j ∷ sym sound.place j ∷ sym sound.among j ∷ count j ∷ p j ∷ q j ∷ zeros_22 j) ∙
       ap (λ t. t ++ part b 6 22) (sym (front_6 b (omega arith))) ∙
-      six_and_on b
+      sym (take-add 6 22 b)
 
+  -- the records are written with the same bytes
   records_again : records_of set i ≡ drop 32 b
   records_again =
       turn_same (slot_at set i) (λ r. part (drop 32 b) (32 * r) 32) 15 (λ r below. slots r below ∙ ap (take 32) (sym (drop-drop (32 * r) 32 b))) ∙
       parts_in_turn (drop 32 b) 32 15 ∙
       take_all 480 (drop 32 b) (simp length-drop (omega arith))
 
+  -- the check and the records are the rest of the block
   rest : part b 28 4 ++ drop 32 b ≡ drop 28 b
   rest = ap (λ t. take 4 (drop 28 b) ++ t) (sym (drop-drop 4 28 b)) ∙ take-append-drop 4 (drop 28 b)
 
+  -- head, check and records are the block
   whole : take 28 b ++ (part b 28 4 ++ drop 32 b) ≡ b
   whole = ap (λ t. take 28 b ++ t) rest ∙ take-append-drop 28 b
 
+  -- the check that was read is the one that is asked for
   check_value : word32 (part b 28 4) 0 ≡ check_of (total (head_of set i n) 7 + total (records_of set i) 120)
   check_value =
       let parts : total b 128 ≡ total (take 28 b) 7 + (total (part b 28 4) 1 + total (drop 32 b) 120) =
@@ -139,9 +135,10 @@ module _ (b : List ℕ) (long : length b ≡ 512) (fit : Bytes b) (i n : ℕ) (s
       ap (λ t. total (take 28 b) 7 + t) (total_append (part b 28 4) (drop 32 b) 1 120 (part_long b 28 4 (omega arith))) in
       let word : total (part b 28 4) 1 ≡ word32 (part b 28 4) 0 = total_more (part b 28 4) 0 ∙ ap (λ t. t + word32 (part b 28 4) 0) (total_none (part b 28 4)) ∙ zero-add (word32 (part b 28 4) 0) in
       let small : word32 (part b 28 4) 0 < 4294967296 =
-      omega (arith, bytes_of_part b 28 4 fit 0 (omega arith), bytes_of_part b 28 4 fit 1 (omega arith), bytes_of_part b 28 4 fit 2 (omega arith), bytes_of_part b 28 4 fit 3 (omega arith)) in
+      omega (arith, bytes_of_part b 28 4 fit 0, bytes_of_part b 28 4 fit 1, bytes_of_part b 28 4 fit 2, bytes_of_part b 28 4 fit 3) in
       omega (arith, sound.sum, parts, word, ap (λ x. total x 7) head_again, ap (λ x. total x 120) records_again)
 
+  -- so the block is written with the same bytes
   pub block_again : block_bytes set i n ≡ b
   unfolding block_bytes
   block_again =
@@ -153,10 +150,12 @@ module _ (b : List ℕ) (long : length b ≡ 512) (fit : Bytes b) (i n : ℕ) (s
 
 -- The whole book.
 
+-- where nothing came out of a map, nothing went in
 none_before : {A B : Type 0} (g : A → B) (o : Option A) → option_map g o ≡ None → o ≡ None
 none_before g None e = refl
-none_before g (Some a) e = let z : ◌≡◌ {A = ℕ} 0 1 = cc in absurd (omega arith)
+none_before g (Some a) e = cc
 
+-- if no fault is among the first n records, none of them has one
 all_clean : (book : List ℕ) (n k : ℕ) → k < n → first_fault book n ≡ None → fault_of book k ≡ None
 all_clean book zero k below clean = absurd (omega arith)
 all_clean book (suc n) k below clean =
@@ -164,29 +163,37 @@ all_clean book (suc n) k below clean =
     ⊎_elim (λ before. all_clean book n k before both.0) (λ last. let same : k ≡ n = omega arith in ap (fault_of book) same ∙ both.1) (cases_lt k n)
 
 module _ (book : List ℕ) (fit : Bytes book) (passed : read_fault book ≡ None) where
+  -- an accepted book passed the checks of its blocks
   opened : open_fault book ≡ None
   opened = (both_pass (open_fault book) (option_map in_book (first_fault book (records book))) passed).0
 
+  -- its records have no fault
   clean : first_fault book (records book) ≡ None
   clean = none_before in_book (first_fault book (records book)) (both_pass (open_fault book) (option_map in_book (first_fault book (records book))) passed).1
 
+  -- how many records it has
   N : ℕ
   N = records book
 
+  -- what it holds
   set : TaskSet
   set = decoded book
 
+  -- as many tasks as records
   counted : length set.tasks ≡ N
   unfolding N set
   counted = length-map-range_with_len (task_at book) 0 (records book)
 
+  -- each record passes its checks
   pub records_pass : (k : ℕ) → k < records book → record_error (record_at book k) ≡ None
-  records_pass k below = none_before (fault_at (place.Record (k / 15) (k % 15))) (record_error (record_at book k)) (all_clean book (records book) k below clean)
+  records_pass k below = none_before (fault_at (Some (place.Record (k / 15) (k % 15)))) (record_error (record_at book k)) (all_clean book (records book) k below clean)
 
+  -- the same, by the number of records
   record_clean : (k : ℕ) → k < N → record_error (record_at book k) ≡ None
   unfolding N
   record_clean k below = records_pass k below
 
+  -- the task of each record
   its_task : (k : ℕ) → k < N → slice_get set.tasks k ≡ Some (task_at book k)
   unfolding N set
   its_task k below =
@@ -196,12 +203,14 @@ module _ (book : List ℕ) (fit : Bytes book) (passed : read_fault book ≡ None
   -- a block of the book
   module _ (i n : ℕ) (b : List ℕ) (same : block_of book i ≡ b) (long : length b ≡ 512) (inside : 512 * i + 512 ≤ length book) (sound : Sound b i n)
       (most : byte b 3 ≤ 15) (in_set : (r : ℕ) → r < byte b 3 → 15 * i + r < N) (past_set : (r : ℕ) → byte b 3 ≤ r → r < 15 → N ≤ 15 * i + r) where
+    -- its bytes are bytes
     block_fits : Bytes b
     block_fits j = ⊎_elim
         (λ below. subst (λ x. x < 256) (sym (byte_of_block book i j below) ∙ ap (λ x. byte x j) same) (fit (512 * i + j)))
         (λ past. subst (λ x. x < 256) (sym (get_or_past b j 0 (omega arith))) (omega arith))
         (cases_lt j 512)
 
+    -- its records stand in the book
     there : (r : ℕ) → r < 15 → record_at book (15 * i + r) ≡ part b (32 + 32 * r) 32
     there r below =
         let q : (15 * i + r) / 15 ≡ i = omega arith in
@@ -211,6 +220,7 @@ module _ (book : List ℕ) (fit : Bytes book) (passed : read_fault book ≡ None
         ap (λ x. part (block_of book i) (32 + 32 * x) 32) m ∙
         ap (λ x. part x (32 + 32 * r) 32) same
 
+    -- each of its slots is written with the same bytes
     its_slot : (r : ℕ) → r < 15 → slot_at set i r ≡ part b (32 + 32 * r) 32
     unfolding N
     its_slot r below = ⊎_elim
@@ -229,9 +239,11 @@ module _ (book : List ℕ) (fit : Bytes book) (passed : read_fault book ≡ None
             ap (λ x. all_zero (take 32 x)) (sym (drop-drop (32 * (r - byte b 3)) (32 + 32 * byte b 3) b)) ∙
             zero_part (drop (32 + 32 * byte b 3) b) (32 * (r - byte b 3)) 32 sound.unused
 
+    -- so the block is written with the same bytes
     one_again : used set i ≡ byte b 3 → cond (eqb i 0) set.p 0 ≡ byte b 4 → cond (eqb i 0) set.q 0 ≡ byte b 5 → block_bytes set i n ≡ b
     one_again count p q = block_again b long block_fits i n sound set count p q its_slot
 
+  -- and so is the book
   pub written_again : encoded (decoded book) ≡ book
   unfolding encoded in_turn N set
   written_again =

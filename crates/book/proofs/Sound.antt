@@ -1,6 +1,6 @@
 -- A block passes its checks exactly if it is sound, and a book that passes has one or two sound blocks.
 -- Assumes nothing.
-use Rattle.std.proofs.Common.{◌≡◌, ℕ, ◌+◌, ◌*◌, ◌%◌, Bool, true, cond, not, eqb, ◌⊎◌, List, length, drop, Some, None, Option, sym, refl, ap, ◌∙◌, inl, inr, arith}
+use Rattle.std.proofs.Common.{◌≡◌, ℕ, ◌+◌, ◌*◌, ◌%◌, Bool, true, cond, not, eqb, ◌⊎◌, List, length, drop, Some, None, Option, sym, refl, ap, ◌∙◌, inl, inr}
 use Rattle.std.proofs.lemmas.Bool.{and_parts, and_from, eqb-true, eq-eqb, ne_eqb, cases_eq, not-false}
 use Rattle.std.specs.Option.{option_or}
 use Rattle.book.proofs.Refused.{both_pass, goes_on, went_on}
@@ -10,6 +10,7 @@ use Rattle.book.specs.Bytes.{byte, part, total, all_zero}
 use Rattle.book.specs.Reading.{sum_fits, head_fits, count_fits, ratio_fits, block_fault, block_of, open_fault}
 use Rattle.book.specs.declared.fault.BookFault.TheVariants.{Length, Sum, Head, Count, Ratio, Reserved}
 
+-- what the checks of a block ask, one by one
 pub record Sound (block : List ℕ) (at blocks : ℕ) : Type 0 where
   pub sum : total block 128 % 4294967296 ≡ 0
   pub kind : byte block 0 ≡ 1
@@ -21,13 +22,16 @@ pub record Sound (block : List ℕ) (at blocks : ℕ) : Type 0 where
   pub unused : all_zero (drop (32 + 32 * byte block 3) block) ≡ true
 
 module _ {E : Type 0} where
+  -- a check that did not refuse holds
   passed : (b : Bool) (e : E) (rest : Option E) → refuse_if (not b) e rest ≡ None → (b ≡ true) × (rest ≡ None)
   passed b e rest p = let w = went_on (not b) e rest p in (not-false b w.0, w.1)
 
+  -- a check that holds does not refuse
   passes : {b : Bool} {rest : Option E} (e : E) → b ≡ true → rest ≡ None → refuse_if (not b) e rest ≡ None
   passes e p q = goes_on e (ap not p) q
 
 module _ (block : List ℕ) (at blocks : ℕ) where
+  -- a block that passes is sound
   pub passed_is_sound : block_fault block at blocks ≡ None → Sound block at blocks
   unfolding block_fault
   passed_is_sound none =
@@ -50,6 +54,7 @@ module _ (block : List ℕ) (at blocks : ℕ) where
         unused = f.0;
       }
 
+  -- a sound block passes
   pub sound_passes : Sound block at blocks → block_fault block at blocks ≡ None
   unfolding block_fault
   sound_passes s =
@@ -72,6 +77,7 @@ pub record Two (book : List ℕ) : Type 0 where
   pub first : Sound (block_of book 0) 0 2
   pub second : Sound (block_of book 1) 1 2
 
+-- a book that passes is one of the two
 pub opened_is : (book : List ℕ) → open_fault book ≡ None → Lone book ⊎ Two book
 opened_is book none =
     elim (cases_eq (length book) 512) [
@@ -82,6 +88,6 @@ opened_is book none =
         | inr m ↦ (let other : open_fault book ≡ Some Length =
             ap (λ b. cond b (block_fault (block_of book 0) 0 1) (cond (eqb (length book) 1024) (option_or (block_fault (block_of book 0) 0 2) (block_fault (block_of book 1) 1 2)) (Some Length))) (ne_eqb _ 512 n) ∙
             ap (λ b. cond b (option_or (block_fault (block_of book 0) 0 2) (block_fault (block_of book 1) 1 2)) (Some Length)) (ne_eqb _ 1024 m) in
-            let z : ◌≡◌ {A = ℕ} 0 1 = cc in absurd (omega arith))
+            cc)
       ]
     ]

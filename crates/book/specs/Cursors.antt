@@ -1,5 +1,6 @@
 -- A cursor over a book: what each step hands out, and where it stands after. Assumes nothing.
 use Rattle.std.specs.Prelude.{◌≡◌, ℕ, zero, suc, ◌+◌, ◌*◌, ◌/◌, ◌%◌, Bool, cond, ◌&&◌, List, length, Some, None, Option, nat_le, nat_lt}
+use Rattle.std.specs.Option.{option_map}
 use Rattle.plan.specs.declared.fault.Place.{Place}
 use Rattle.plan.specs.declared.fault.Place.TheVariants as place
 use Rattle.book.specs.Bytes.{byte}
@@ -25,8 +26,8 @@ abbrev pub seen : Record → Seen
 seen r = record { bytes = r.bytes.now; block = r.block; number = r.number }
 
 -- where a record's fault is
-abbrev pub place_of : Record → Place
-place_of r = place.Record r.block r.number
+abbrev pub place_of : Record → Option Place
+place_of r = Some (place.Record r.block r.number)
 
 abbrev pub begun : List ℕ → Walk
 begun book = record { book = book; next = 0 }
@@ -44,6 +45,11 @@ handed_out w = cond (has w.book w.next) (Some (record_seen w.book w.next)) None
 
 abbrev pub stepped : Walk → Walk
 stepped w = record { book = w.book; next = cond (has w.book w.next) (w.next + 1) w.next }
+
+-- a step of a cursor: what it hands out, and where the cursor stands after
+pub record Steps (before : Cursor) (item : Option Record) (now : Cursor) : Type 0 where
+  pub handed : option_map seen item ≡ handed_out (walk before)
+  pub after : walk now ≡ stepped (walk before)
 
 -- after n steps
 unfoldable pub steps : ℕ → Walk → Walk

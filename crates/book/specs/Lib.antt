@@ -4,4 +4,5 @@ pub mod Decoded
 pub mod Reading
 pub mod Refusals
 pub mod RoundTrip
+pub mod Seats
 pub mod Writing

@@ -92,12 +92,12 @@ draft_of bytes = record {
 abbrev pub record_error : List ℕ → Option RecordError
 record_error bytes = option_or (first_error (draft_of bytes)) (refuse_if (not (all_zero (drop 9 bytes))) SpeedOrRest None)
 
-abbrev pub record_fault : List ℕ → Place → Option RecordFault
+abbrev pub record_fault : List ℕ → Option Place → Option RecordFault
 record_fault bytes at = option_map (fault_at at) (record_error bytes)
 
 -- the fault of record n, at its block and its number there
 abbrev pub fault_of : List ℕ → ℕ → Option RecordFault
-fault_of book n = record_fault (record_at book n) (place.Record (n / 15) (n % 15))
+fault_of book n = record_fault (record_at book n) (Some (place.Record (n / 15) (n % 15)))
 
 -- the first fault among the first n records
 unfoldable pub first_fault : List ℕ → ℕ → Option RecordFault

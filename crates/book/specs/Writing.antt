@@ -45,6 +45,10 @@ head_of set i blocks = 1 ∷ i ∷ blocks ∷ used set i ∷ cond (i == 0) set.p
 abbrev pub check_of : ℕ → ℕ
 check_of sum = (4294967296 - sum % 4294967296) % 4294967296
 
+-- a block with the word at byte 28 that makes its words add up to 0 modulo 2^32, whatever stood there
+abbrev pub mended : List ℕ → List ℕ
+mended block = over block 28 (bytes32 (check_of (total block 7 + total (drop 32 block) 120)))
+
 -- Block i of so many: its head, the word that makes the check come out, its records.
 unfoldable pub block_bytes : TaskSet → ℕ → ℕ → List ℕ
 block_bytes set i blocks =
@@ -57,6 +61,10 @@ blocks_for set = cond (nat_le (length set.tasks) 15) 1 2
 unfoldable pub encoded : TaskSet → List ℕ
 encoded set = in_turn (λ i. block_bytes set i (blocks_for set)) (blocks_for set)
 
+-- a buffer with that much room is shorter than a book of that size
+abbrev pub room_fault : ℕ → ℕ → Option BookFault
+room_fault size room = refuse_if (nat_lt room size) Buffer None
+
 -- the buffer is shorter than the written book
 abbrev pub write_fault : TaskSet → ℕ → Option BookFault
-write_fault set room = refuse_if (nat_lt room (512 * blocks_for set)) Buffer None
+write_fault set room = room_fault (512 * blocks_for set) room

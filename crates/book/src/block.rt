@@ -1,43 +1,81 @@
-// The checks of one block: its sum, its head, its number of records, its ratio, and its zero bytes.
-ghost use Rattle.std.specs.Prelude.{◌≡◌, ◌+◌, ◌%◌, ◌≤◌, not, length, None};
+// One block of a book: where it sits, its sum and how it comes out as zero, and its checks.
+ghost use Rattle.std.specs.Prelude.{◌≡◌, ◌*◌, ◌%◌, ◌≤◌, not, None};
 ghost use Rattle.plan.specs.Checks.{refuse_if};
 ghost use Rattle.plan.specs.Refusals.{answer};
-ghost use Rattle.book.specs.Bytes.{byte, word32, total, all_zero};
+ghost use Rattle.book.specs.Bytes.{byte, total, all_zero};
 ghost use Rattle.book.specs.Reading.{head_fits, count_fits, ratio_fits, zeros_fault, block_fault, open_fault};
+ghost use Rattle.book.specs.Seats.{place, blocks};
+ghost use Rattle.book.specs.Writing.{mended};
 
 use super::fault::BookFault;
 use plan::task::Ratio;
 
 // Bytes in a block.
 pub const BLOCK: usize = 512;
-// Records in a block, and bytes in a record and in the block's head.
+// Records in a block.
 pub const RECORDS: usize = 15;
-
+// Bytes in a record, and in the block's head.
 pub const RECORD: usize = 32;
-// Words of 32 bits in a block.
-const WORDS: usize = 128;
+
+// Where a block sits in its book: alone, or as the first or the second of two.
+#[derive(Clone, Copy)]
+pub(crate) enum Seat {
+    Lone,
+    First,
+    Second,
+}
+
+impl Seat {
+    // The block's number in its book.
+    pub(crate) fn place(self) -> u8
+        ensures { result ≡ place self }
+    {
+        match self {
+            Seat::Lone | Seat::First => 0,
+            Seat::Second => 1,
+        }
+    }
+
+    // The number of the block's first record, counted on over the blocks.
+    pub(crate) fn first_record(self) -> usize
+        ensures { result ≡ 15 * place self }
+    {
+        RECORDS * usize::from(self.place())
+    }
+
+    // How many blocks the book has.
+    pub(crate) fn blocks(self) -> u8
+        ensures { result ≡ blocks self }
+    {
+        match self {
+            Seat::Lone => 1,
+            Seat::First | Seat::Second => 2,
+        }
+    }
+}
 
 // The sum of a block's words, modulo 2^32.
-pub(crate) fn sum(block: &[u8]) -> u32
-    requires { length block.now ≡ 512 }
+fn sum(block: &[u8; BLOCK]) -> u32
     ensures { result ≡ total block.now 128 % 4294967296 }
 {
-    let mut sum: u32 = 0;
-    for i in 0..WORDS {
-        sum = sum.wrapping_add(word(block, 4 * i));
-    }
-    sum
+    let (words, _) = block.as_chunks::<4>();
+    words.iter().fold(
+        0u32,
+        |sum, word| sum.wrapping_add(u32::from_le_bytes(*word)),
+    )
 }
 
-// The word that begins at a byte.
-fn word(block: &[u8], at: usize) -> u32
-    requires { at + 4 ≤ length block.now }
-    ensures { result ≡ word32 block.now at }
+// Makes the words of a block add up to zero, by the word at byte 28.
+pub fn mend(block: &mut [u8; BLOCK])
+    ensures word { block.new ≡ mended block.old }
+    ensures sum { total block.new 128 % 4294967296 ≡ 0 }
 {
-    u32::from_le_bytes([block[at], block[at + 1], block[at + 2], block[at + 3]])
+    block[28..32].copy_from_slice(&[0; 4]);
+    let check = sum(block).wrapping_neg();
+    block[28..32].copy_from_slice(&check.to_le_bytes());
 }
 
-// Refuses at the first byte that is not zero.
+// Refuses at the first byte that is not zero: by a loop that returns there, which is asked for.
 pub(crate) fn expect_zero<E: Copy>(bytes: &[u8], refusal: E) -> Result<(), E>
     ensures { result ≡ answer (refuse_if (not (all_zero bytes.now)) refusal None) tt }
 {
@@ -49,32 +87,31 @@ pub(crate) fn expect_zero<E: Copy>(bytes: &[u8], refusal: E) -> Result<(), E>
     Ok(())
 }
 
-fn head_fits(block: &[u8], place: usize, blocks: usize) -> bool
-    requires { length block.now ≡ 512 }
-    ensures { result ≡ head_fits block.now place blocks }
+// Kind 1, and then the place and the number of blocks that go with the seat.
+fn head_fits(block: &[u8; BLOCK], seat: Seat) -> bool
+    ensures { result ≡ head_fits block.now (place seat) (blocks seat) }
 {
-    block[0] == 1 && block[1] as usize == place && block[2] as usize == blocks
+    block[0] == 1 && block[1] == seat.place() && block[2] == seat.blocks()
 }
 
-fn count_fits(count: u8, place: usize, blocks: usize) -> bool
-    ensures { result ≡ count_fits count place blocks }
+// How many records a block may have at its seat.
+fn count_fits(count: u8, seat: Seat) -> bool
+    ensures { result ≡ count_fits count (place seat) (blocks seat) }
 {
-    if blocks == 1 {
-        count <= 15
-    } else if place == 0 {
-        count == 15
-    } else {
-        1 <= count && count <= 15
+    match seat {
+        Seat::Lone => count <= 15,
+        Seat::First => count == 15,
+        Seat::Second => 1 <= count && count <= 15,
     }
 }
 
-fn ratio_fits(p: u8, q: u8, place: usize) -> bool
-    ensures { result ≡ ratio_fits p q place }
+// The ratio stands in the first block, and zero in the second.
+fn ratio_fits(p: u8, q: u8, seat: Seat) -> bool
+    ensures { result ≡ ratio_fits p q (place seat) }
 {
-    if place == 0 {
-        Ratio::new(p, q).is_some()
-    } else {
-        p == 0 && q == 0
+    match seat {
+        Seat::Lone | Seat::First => Ratio::new(p, q).is_some(),
+        Seat::Second => p == 0 && q == 0,
     }
 }
 
@@ -82,43 +119,48 @@ fn ratio_fits(p: u8, q: u8, place: usize) -> bool
 pub(crate) fn check_blocks(book: &[u8]) -> Result<(), BookFault>
     ensures { result ≡ answer (open_fault book.now) tt }
 {
-    match book.len() {
-        512 => check_block(book, 0, 1),
-        1024 => {
-            check_block(&book[0..512], 0, 2)?;
-            check_block(&book[512..1024], 1, 2)
+    let (blocks, rest) = book.as_chunks::<BLOCK>();
+    if !rest.is_empty() {
+        return Err(BookFault::Length);
+    }
+    match blocks {
+        [block] => check_block(block, Seat::Lone),
+        [first, second] => {
+            check_block(first, Seat::First)?;
+            check_block(second, Seat::Second)
         }
         _ => Err(BookFault::Length),
     }
 }
 
-// The first check that a block fails, at its place among so many blocks.
-fn check_block(block: &[u8], place: usize, blocks: usize) -> Result<(), BookFault>
-    requires { length block.now ≡ 512 }
-    ensures { result ≡ answer (block_fault block.now place blocks) tt }
+// The first check that a block fails at its seat.
+#[tactic(auto, unfolding(crate::specs::Reading::block_fault))]
+fn check_block(block: &[u8; BLOCK], seat: Seat) -> Result<(), BookFault>
+    ensures { result ≡ answer (block_fault block.now (place seat) (blocks seat)) tt }
 {
+    let place = usize::from(seat.place());
     if sum(block) != 0 {
         return Err(BookFault::Sum(place));
     }
-    if !head_fits(block, place, blocks) {
+    if !head_fits(block, seat) {
         return Err(BookFault::Head(place));
     }
-    if !count_fits(block[3], place, blocks) {
+    if !count_fits(block[3], seat) {
         return Err(BookFault::Count(place));
     }
-    if !ratio_fits(block[4], block[5], place) {
+    if !ratio_fits(block[4], block[5], seat) {
         return Err(BookFault::Ratio(place));
     }
-    check_zeros(block, place)
+    check_zeros(block, seat)
 }
 
 // The bytes of a block that must be zero: 6 to 27, and the records that are not used.
-fn check_zeros(block: &[u8], place: usize) -> Result<(), BookFault>
-    requires long { length block.now ≡ 512 }
-    requires few { byte block.now 3 ≤ 15 }
-    ensures { result ≡ answer (zeros_fault block.now place) tt }
+fn check_zeros(block: &[u8; BLOCK], seat: Seat) -> Result<(), BookFault>
+    requires { byte block.now 3 ≤ 15 }
+    ensures { result ≡ answer (zeros_fault block.now (place seat)) tt }
 {
-    let unused = RECORD + RECORD * block[3] as usize;
-    expect_zero(&block[6..28], BookFault::Reserved(place))?;
-    expect_zero(&block[unused..], BookFault::Reserved(place))
+    let refusal = BookFault::Reserved(usize::from(seat.place()));
+    let unused = RECORD + RECORD * usize::from(block[3]);
+    expect_zero(&block[6..28], refusal)?;
+    expect_zero(&block[unused..], refusal)
 }

@@ -1,11 +1,13 @@
 // Why a book is refused, with what each refusal says.
-ghost use Rattle.std.specs.Prelude.{◌≡◌};
-ghost use Rattle.book.specs.Refusals.{in_book, book_account};
+ghost use Rattle.std.specs.Prelude.{◌≡◌, Some};
+ghost use Rattle.book.specs.Refusals.{in_book, book_account, book_reason};
 
 use plan::fault::{Account, Layer, Place, RecordFault};
+use std::error::Error;
+use std::fmt;
 
 // Each fault of a block carries that block's number.
-#[derive(Clone, Copy, Debug)]
+#[derive(Clone, Copy, PartialEq, Eq, Debug)]
 pub enum BookFault {
     // the book is not 512 or 1,024 bytes long
     Length,
@@ -32,19 +34,20 @@ impl From<RecordFault> for BookFault {
     }
 }
 
-impl BookFault {
-    pub fn account(&self) -> Account
-        ensures { result ≡ book_account self.now }
-    {
-        let (number, place) = match self {
-            BookFault::Length => (1, Place::Nowhere),
-            BookFault::Sum(block) => (2, Place::Block(*block)),
-            BookFault::Head(block) => (3, Place::Block(*block)),
-            BookFault::Count(block) => (4, Place::Block(*block)),
-            BookFault::Ratio(block) => (5, Place::Block(*block)),
-            BookFault::Reserved(block) => (6, Place::Block(*block)),
-            BookFault::Record(fault) => return fault.account(),
-            BookFault::Buffer => (18, Place::Nowhere),
+impl From<BookFault> for Account {
+    ghost from_gives = { λ fault r. r ≡ book_account fault };
+
+    // A variant that carries a value has no number of its own, so the numbers stand here.
+    fn from(fault: BookFault) -> Account {
+        let (number, place) = match fault {
+            BookFault::Length => (1, None),
+            BookFault::Sum(block) => (2, Some(Place::Block(block))),
+            BookFault::Head(block) => (3, Some(Place::Block(block))),
+            BookFault::Count(block) => (4, Some(Place::Block(block))),
+            BookFault::Ratio(block) => (5, Some(Place::Block(block))),
+            BookFault::Reserved(block) => (6, Some(Place::Block(block))),
+            BookFault::Record(fault) => return Account::from(fault),
+            BookFault::Buffer => (18, None),
         };
         Account {
             number,
@@ -54,3 +57,23 @@ impl BookFault {
         }
     }
 }
+
+// The reason of the refusal. Its number and place are in its account.
+impl fmt::Display for BookFault {
+    ghost output = { λ fault. Some (book_reason fault) };
+
+    fn fmt<W: fmt::Write>(&self, f: &mut fmt::Formatter<W>) -> fmt::Result {
+        f.write_str(match self {
+            BookFault::Length => "the book is neither 512 nor 1,024 bytes long",
+            BookFault::Sum(_) => "the words of the block do not add up to zero",
+            BookFault::Head(_) => "the block's kind, its place or the number of blocks is wrong",
+            BookFault::Count(_) => "the block cannot have that number of records",
+            BookFault::Ratio(_) => "the ratio of the speeds is out of range",
+            BookFault::Reserved(_) => "a reserved byte or an unused record is not zero",
+            BookFault::Record(fault) => return write!(f, "{fault}"),
+            BookFault::Buffer => "the buffer is too short for the book",
+        })
+    }
+}
+
+impl Error for BookFault {}

@@ -1,5 +1,5 @@
 // Reading a book into a plan.
-ghost use Rattle.std.specs.Prelude.{◌≡◌, false, length, drop, is_ok, None, OnOk};
+ghost use Rattle.std.specs.Prelude.{◌≡◌, drop, None, OnOk, OnErr};
 ghost use Rattle.std.specs.Result.{result_map_both};
 ghost use Rattle.plan.specs.Refusals.{answer, left};
 ghost use Rattle.plan.specs.Checks.{parameters_of};
@@ -8,7 +8,7 @@ ghost use Rattle.book.specs.Cursors.{walk, begun, place_of};
 ghost use Rattle.book.specs.Reading.{draft_of, record_fault, open_fault, first_fault, records, read_fault, decoded, holding};
 ghost use Rattle.book.specs.Writing.{encoded};
 
-use super::block::expect_zero;
+use super::block::{RECORD, expect_zero};
 use super::cursor::{Cursor, Record};
 use super::fault::BookFault;
 use plan::draft::Draft;
@@ -16,13 +16,13 @@ use plan::fault::{Place, RecordError, RecordFault};
 use plan::plan::Plan;
 use plan::task::{Ratio, Task};
 
-// Takes a record apart into its numbers and the rest.
-fn fields(bytes: &[u8]) -> (Draft, &[u8])
-    requires { length bytes.now ≡ 32 }
+// Takes a record apart into its numbers and the rest: by a pattern on the slice, since one with a rest on the array gets
+// no proof.
+fn fields(bytes: &[u8; RECORD]) -> (Draft, &[u8])
     ensures numbers { result.0 ≡ draft_of bytes.now }
     ensures rest { result.1.now ≡ drop 9 bytes.now }
 {
-    let [t0, t1, d0, d1, c0, c1, m, k, speed, rest @ ..] = bytes else {
+    let [t0, t1, d0, d1, c0, c1, m, k, speed, rest @ ..] = &bytes[..] else {
         return unreachable();
     };
     let draft = Draft {
@@ -38,10 +38,9 @@ fn fields(bytes: &[u8]) -> (Draft, &[u8])
 
 // The task of a record, or its first fault.
 fn task_of(item: &Record) -> Result<Task, RecordFault>
-    requires { length item.now.bytes.now ≡ 32 }
     ensures { result_map_both parameters (λ e. e) result ≡ answer (record_fault item.now.bytes.now (place_of item.now)) (parameters_of (draft_of item.now.bytes.now)) }
 {
-    let place = Place::Record(item.block, item.number);
+    let place = Some(Place::Record(item.block, item.number));
     let (draft, rest) = fields(item.bytes);
     let task = draft.check(place)?;
     let error = RecordError::SpeedOrRest;
@@ -50,13 +49,13 @@ fn task_of(item: &Record) -> Result<Task, RecordFault>
 }
 
 // The plan of an opened book with that ratio, or the first fault of its records.
-fn collected(mut cursor: Cursor, ratio: Ratio) -> Result<Plan, RecordFault>
+fn collected(cursor: Cursor, ratio: Ratio) -> Result<Plan, RecordFault>
     requires opened { open_fault cursor.book.now ≡ None }
     requires begun { walk cursor ≡ begun cursor.book.now }
     ensures { result_map_both task_set (λ e. e) result ≡ answer (first_fault cursor.entry.book.now (records cursor.entry.book.now)) (holding cursor.entry.book.now ratio.p ratio.q) }
 {
     let mut plan = Plan::with_ratio(ratio);
-    while let Some(item) = cursor.next() {
+    for item in cursor {
         let task = task_of(&item)?;
         // a book has no more records than a plan has rows
         let _ = plan.append(task);
@@ -68,13 +67,11 @@ fn collected(mut cursor: Cursor, ratio: Ratio) -> Result<Plan, RecordFault>
 pub fn read(book: &[u8], plan: &mut Plan) -> Result<(), BookFault>
     ensures answer { result ≡ answer (read_fault book.now) tt }
     ensures after { task_set plan.new ≡ left (read_fault book.now) (decoded book.now) (task_set plan.old) }
-    ensures kept { is_ok result ≡ false → plan.new ≡ plan.old }
+    ensures kept { OnErr result (plan.new ≡ plan.old) }
     ensures rewrites { OnOk result (encoded (task_set plan.new) ≡ book.now) }
 {
     let cursor = Cursor::open(book)?;
-    let Some(ratio) = Ratio::new(book[4], book[5]) else {
-        return Err(BookFault::Ratio(0));
-    };
+    let ratio = Ratio::new(book[4], book[5]).ok_or(BookFault::Ratio(0))?;
     *plan = collected(cursor, ratio)?;
     Ok(())
 }

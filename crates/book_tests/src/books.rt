@@ -1,22 +1,16 @@
 // Books of every shape: written, read back, written again, and gone through by a cursor.
-use super::samples::{account, equal, plan_of};
+use super::samples::{account, equal, plan_of, refuses};
 use book::cursor::Cursor;
-use book::fault::BookFault;
 use book::reader::read;
 use book::writer::write;
-use plan::fault::{Layer, Place};
+use plan::fault::Layer;
 use plan::plan::Plan;
 use std::process::Abort;
 use std::test::Fail;
 
 // The bytes from a place on that are as they were.
 fn kept(bytes: &[u8], from: usize) -> bool {
-    for byte in bytes.iter().skip(from) {
-        if *byte != 0xAA {
-            return false;
-        }
-    }
-    true
+    bytes.iter().skip(from).all(|byte| *byte == 0xAA)
 }
 
 // A plan of so many tasks is written in this many bytes, reads back equal, and is written again alike.
@@ -47,10 +41,8 @@ fn round_trips(rt: HostRuntime) -> Result<(), Fail> {
 fn too_short(rt: &impl Abort, count: u8, length: usize) -> Result<(), Fail> {
     let plan = plan_of(count)?;
     let mut bytes = [0xAA; 1100];
-    match write(&plan, bytes.get_mut(0..length).unwrap_or(&mut [])) {
-        Ok(_) => Err(Fail::new("written"))?,
-        Err(fault) => assert_eq!(rt; fault.account(), account(18, Layer::Book, Place::Nowhere)),
-    }
+    let answer = write(&plan, bytes.get_mut(0..length).unwrap_or(&mut []));
+    refuses(rt, answer, account(18, Layer::Book, None))?;
     assert!(rt; kept(&bytes, 0));
     Ok(())
 }
@@ -69,13 +61,12 @@ fn in_turn(rt: &impl Abort, count: u8) -> Result<(), Fail> {
     let mut bytes = [0; 1024];
     let length = write(&plan, &mut bytes)?;
     let mut cursor = Cursor::open(bytes.get(0..length).unwrap_or(&[]))?;
-    for number in 0..usize::from(count) {
-        let Some(item) = cursor.next() else {
-            return Err(Fail::new("a record is missing"));
-        };
+    assert_eq!(rt; cursor.count(), usize::from(count));
+    for (number, item) in (0..count).zip(cursor.by_ref()) {
+        let number = usize::from(number);
         let at = 512 * (number / 15) + 32 + 32 * (number % 15);
         assert!(rt; item.block == number / 15 && item.number == number % 15);
-        assert!(rt; item.bytes == bytes.get(at..at + 32).unwrap_or(&[]));
+        assert!(rt; item.bytes.as_slice() == bytes.get(at..at + 32).unwrap_or(&[]));
     }
     assert!(rt; cursor.next().is_none() && cursor.next().is_none() && cursor.next().is_none());
     Ok(())

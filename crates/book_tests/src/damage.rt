@@ -1,5 +1,6 @@
 // Damaged books: each check of a book with the place where it fails, halves of books, and flipped bits.
-use super::samples::{account, equal, mend, plan_of};
+use super::samples::{account, adds_up, plan_of, refuses_and_keeps};
+use book::block::mend;
 use book::reader::read;
 use book::writer::write;
 use plan::fault::{Layer, Place};
@@ -15,143 +16,123 @@ struct Forgery {
     place: Place,
 }
 
-const fn in_block(at: usize, bytes: &'static [u8], number: u8, block: usize) -> Forgery {
+const fn forge(at: usize, bytes: &'static [u8], number: u8, place: Place) -> Forgery {
     Forgery {
         at,
         bytes,
         number,
-        place: Place::Block(block),
-    }
-}
-
-const fn in_record(
-    at: usize,
-    bytes: &'static [u8],
-    number: u8,
-    block: usize,
-    record: usize,
-) -> Forgery {
-    Forgery {
-        at,
-        bytes,
-        number,
-        place: Place::Record(block, record),
+        place,
     }
 }
 
 // Reading these bytes is refused so, and the plan that it was to fill stays as it was.
-fn refused(rt: &impl Abort, bytes: &[u8], number: u8, place: Place) -> Result<(), Fail> {
-    let before = plan_of(3)?;
-    let mut plan = before;
-    let layer = if number < 7 {
-        Layer::Book
-    } else {
-        Layer::Record
+fn refused(rt: &impl Abort, bytes: &[u8], number: u8, place: Option<Place>) -> Result<(), Fail> {
+    let layer = match place {
+        Some(Place::Record(_, _)) => Layer::Record,
+        _ => Layer::Book,
     };
-    match read(bytes, &mut plan) {
-        Ok(()) => Err(Fail::new("accepted"))?,
-        Err(fault) => assert_eq!(rt; fault.account(), account(number, layer, place)),
-    }
-    assert!(rt; equal(&plan, &before));
-    Ok(())
+    refuses_and_keeps(rt, plan_of(3)?, account(number, layer, place), |plan| {
+        read(bytes, plan)
+    })
 }
 
 fn overwrite(book: &mut [u8], at: usize, bytes: &[u8]) {
-    for (i, byte) in bytes.iter().enumerate() {
-        if let Some(place) = book.get_mut(at.wrapping_add(i)) {
-            *place = *byte;
-        }
+    for (place, byte) in book.iter_mut().skip(at).zip(bytes) {
+        *place = *byte;
     }
 }
 
-// Makes the sums of both blocks right again.
-fn mend_both(book: &mut [u8]) {
-    if book.len() == 1024 {
-        mend(&mut book[0..512]);
-        mend(&mut book[512..1024]);
-    }
-}
-
-// A book of 16 tasks, in two blocks, with these bytes in it and its sums made right again.
-fn forged(rt: &impl Abort, forgery: Forgery) -> Result<(), Fail> {
+// A book of 16 tasks, in two blocks, with these bytes in it and its sums made right again; and then, if so told, one
+// byte more that is wrong.
+fn forged_and_damaged(
+    rt: &impl Abort,
+    forgery: Forgery,
+    damaged: Option<usize>,
+) -> Result<(), Fail> {
     let mut book = [0; 1024];
     write(&plan_of(16)?, &mut book)?;
     overwrite(&mut book, forgery.at, forgery.bytes);
-    mend_both(&mut book);
-    refused(rt, &book, forgery.number, forgery.place)
+    for block in book.as_chunks_mut::<512>().0 {
+        mend(block);
+        assert!(rt; adds_up(block));
+    }
+    if let Some(at) = damaged {
+        overwrite(&mut book, at, &[0xFF]);
+    }
+    refused(rt, &book, forgery.number, Some(forgery.place))
+}
+
+// The same and nothing more.
+fn forged(rt: &impl Abort, forgery: Forgery) -> Result<(), Fail> {
+    forged_and_damaged(rt, forgery, None)
 }
 
 #[test]
 fn blocks(rt: HostRuntime) -> Result<(), Fail> {
-    forged(&rt, in_block(0, &[2], 3, 0))?;
-    forged(&rt, in_block(513, &[0], 3, 1))?;
-    forged(&rt, in_block(514, &[1], 3, 1))?;
-    forged(&rt, in_block(3, &[14], 4, 0))?;
-    forged(&rt, in_block(515, &[0], 4, 1))?;
-    forged(&rt, in_block(515, &[16], 4, 1))?;
-    forged(&rt, in_block(4, &[17], 5, 0))?;
-    forged(&rt, in_block(4, &[1], 5, 0))?;
-    forged(&rt, in_block(516, &[1], 5, 1))?;
-    forged(&rt, in_block(6, &[1], 6, 0))?;
-    forged(&rt, in_block(539, &[1], 6, 1))?;
-    forged(&rt, in_block(576, &[1], 6, 1))?;
-    forged(&rt, in_block(1023, &[1], 6, 1))
+    forged(&rt, forge(0, &[2], 3, Place::Block(0)))?;
+    forged(&rt, forge(513, &[0], 3, Place::Block(1)))?;
+    forged(&rt, forge(514, &[1], 3, Place::Block(1)))?;
+    forged(&rt, forge(3, &[14], 4, Place::Block(0)))?;
+    forged(&rt, forge(515, &[0], 4, Place::Block(1)))?;
+    forged(&rt, forge(515, &[16], 4, Place::Block(1)))?;
+    forged(&rt, forge(4, &[17], 5, Place::Block(0)))?;
+    forged(&rt, forge(4, &[1], 5, Place::Block(0)))?;
+    forged(&rt, forge(516, &[1], 5, Place::Block(1)))?;
+    forged(&rt, forge(6, &[1], 6, Place::Block(0)))?;
+    forged(&rt, forge(539, &[1], 6, Place::Block(1)))?;
+    forged(&rt, forge(576, &[1], 6, Place::Block(1)))?;
+    forged(&rt, forge(1023, &[1], 6, Place::Block(1)))
 }
 
 #[test]
 fn records(rt: HostRuntime) -> Result<(), Fail> {
-    forged(&rt, in_record(32, &[0, 0], 7, 0, 0))?;
-    forged(&rt, in_record(544, &[0, 0], 7, 1, 0))?;
-    forged(&rt, in_record(34, &[0, 0], 8, 0, 0))?;
-    forged(&rt, in_record(482, &[255, 255], 8, 0, 14))?;
-    forged(&rt, in_record(36, &[0, 0], 9, 0, 0))?;
-    forged(&rt, in_record(68, &[255, 255], 9, 0, 1))?;
-    forged(&rt, in_record(38, &[0], 10, 0, 0))?;
-    forged(&rt, in_record(38, &[9], 10, 0, 0))?;
-    forged(&rt, in_record(39, &[33], 10, 0, 0))?;
-    forged(&rt, in_record(40, &[2], 11, 0, 0))?;
-    forged(&rt, in_record(41, &[1], 11, 0, 0))?;
-    forged(&rt, in_record(575, &[1], 11, 1, 0))
-}
-
-// The same with one byte more that is wrong, and no sum made right after that.
-fn forged_and_damaged(rt: &impl Abort, forgery: Forgery, at: usize) -> Result<(), Fail> {
-    let mut book = [0; 1024];
-    write(&plan_of(16)?, &mut book)?;
-    overwrite(&mut book, forgery.at, forgery.bytes);
-    mend_both(&mut book);
-    overwrite(&mut book, at, &[0xFF]);
-    refused(rt, &book, forgery.number, forgery.place)
+    forged(&rt, forge(32, &[0, 0], 7, Place::Record(0, 0)))?;
+    forged(&rt, forge(544, &[0, 0], 7, Place::Record(1, 0)))?;
+    forged(&rt, forge(34, &[0, 0], 8, Place::Record(0, 0)))?;
+    forged(&rt, forge(482, &[255, 255], 8, Place::Record(0, 14)))?;
+    forged(&rt, forge(36, &[0, 0], 9, Place::Record(0, 0)))?;
+    forged(&rt, forge(68, &[255, 255], 9, Place::Record(0, 1)))?;
+    forged(&rt, forge(38, &[0], 10, Place::Record(0, 0)))?;
+    forged(&rt, forge(38, &[9], 10, Place::Record(0, 0)))?;
+    forged(&rt, forge(39, &[33], 10, Place::Record(0, 0)))?;
+    forged(&rt, forge(40, &[2], 11, Place::Record(0, 0)))?;
+    forged(&rt, forge(41, &[1], 11, Place::Record(0, 0)))?;
+    forged(&rt, forge(575, &[1], 11, Place::Record(1, 0)))
 }
 
 #[test]
 fn blocks_before_records(rt: HostRuntime) -> Result<(), Fail> {
     // a reserved byte of block 0, then the sum of block 1, then a record of block 0
-    forged_and_damaged(&rt, in_block(6, &[1], 6, 0), 1000)?;
-    forged_and_damaged(&rt, in_block(32, &[0, 0], 2, 1), 1000)
+    forged_and_damaged(&rt, forge(6, &[1], 6, Place::Block(0)), Some(1000))?;
+    forged_and_damaged(&rt, forge(32, &[0, 0], 2, Place::Block(1)), Some(1000))
 }
 
 // Several checks fail, and the first of them is told.
 #[test]
 fn sequence_of_checks(rt: HostRuntime) -> Result<(), Fail> {
-    forged(&rt, in_block(0, &[2, 9, 9, 99, 0, 0, 1], 3, 0))?;
-    forged(&rt, in_block(3, &[99, 0, 0, 1], 4, 0))?;
-    forged(&rt, in_block(4, &[0, 0, 1], 5, 0))?;
-    forged(&rt, in_record(32, &[0, 0, 0, 0, 0, 0, 0, 0, 9, 9], 7, 0, 0))?;
-    forged(&rt, in_record(34, &[0, 0, 0, 0, 0, 0, 9, 9], 8, 0, 0))?;
-    forged(&rt, in_record(36, &[0, 0, 0, 0, 9, 9], 9, 0, 0))?;
-    forged(&rt, in_record(38, &[0, 0, 9, 9], 10, 0, 0))?;
+    forged(&rt, forge(0, &[2, 9, 9, 99, 0, 0, 1], 3, Place::Block(0)))?;
+    forged(&rt, forge(3, &[99, 0, 0, 1], 4, Place::Block(0)))?;
+    forged(&rt, forge(4, &[0, 0, 1], 5, Place::Block(0)))?;
+    forged(
+        &rt,
+        forge(32, &[0, 0, 0, 0, 0, 0, 0, 0, 9, 9], 7, Place::Record(0, 0)),
+    )?;
+    forged(
+        &rt,
+        forge(34, &[0, 0, 0, 0, 0, 0, 9, 9], 8, Place::Record(0, 0)),
+    )?;
+    forged(&rt, forge(36, &[0, 0, 0, 0, 9, 9], 9, Place::Record(0, 0)))?;
+    forged(&rt, forge(38, &[0, 0, 9, 9], 10, Place::Record(0, 0)))?;
     // the speed of record 0 before the period of record 1
     forged(
         &rt,
-        in_record(
+        forge(
             40,
             &[
                 2, 0, 0, 0, 0, 0, 0, 0, 0, 0, 0, 0, 0, 0, 0, 0, 0, 0, 0, 0, 0, 0, 0, 0, 0, 0,
             ],
             11,
-            0,
-            0,
+            Place::Record(0, 0),
         ),
     )
 }
@@ -160,32 +141,34 @@ fn sequence_of_checks(rt: HostRuntime) -> Result<(), Fail> {
 fn lengths_and_halves(rt: HostRuntime) -> Result<(), Fail> {
     let mut book = [0; 1025];
     write(&plan_of(16)?, &mut book)?;
-    refused(&rt, &[], 1, Place::Nowhere)?;
-    refused(&rt, &book[0..511], 1, Place::Nowhere)?;
-    refused(&rt, &book[0..513], 1, Place::Nowhere)?;
-    refused(&rt, &book[0..1023], 1, Place::Nowhere)?;
-    refused(&rt, &book, 1, Place::Nowhere)?;
-    refused(&rt, &book[0..512], 3, Place::Block(0))?;
-    refused(&rt, &book[512..1024], 3, Place::Block(0))?;
-    refused(&rt, &[0; 512], 3, Place::Block(0))?;
-    refused(&rt, &[0; 1024], 3, Place::Block(0))
+    refused(&rt, &[], 1, None)?;
+    refused(&rt, &book[0..511], 1, None)?;
+    refused(&rt, &book[0..513], 1, None)?;
+    refused(&rt, &book[0..1023], 1, None)?;
+    refused(&rt, &book, 1, None)?;
+    refused(&rt, &book[0..512], 3, Some(Place::Block(0)))?;
+    refused(&rt, &book[512..1024], 3, Some(Place::Block(0)))?;
+    refused(&rt, &[0; 512], 3, Some(Place::Block(0)))?;
+    refused(&rt, &[0; 1024], 3, Some(Place::Block(0)))
+}
+
+// Flips one bit of the byte.
+fn flip(book: &mut [u8], at: usize) {
+    if let Some(byte) = book.get_mut(at) {
+        *byte ^= 1 << (at % 8);
+    }
 }
 
 // One bit of each byte of a book of so many tasks, flipped: its block does not add up.
 fn flipped(rt: &impl Abort, count: u8, length: usize) -> Result<(), Fail> {
     let mut room = [0; 1024];
     write(&plan_of(count)?, &mut room)?;
+    let book = room.get_mut(0..length).unwrap_or(&mut []);
+    // by its place, since the whole book is read while the byte is flipped
     for at in 0..length {
-        let mut copy = room;
-        if let Some(byte) = copy.get_mut(at) {
-            *byte ^= 1 << (at % 8);
-        }
-        refused(
-            rt,
-            copy.get(0..length).unwrap_or(&[]),
-            2,
-            Place::Block(at / 512),
-        )?;
+        flip(book, at);
+        refused(rt, book, 2, Some(Place::Block(at / 512)))?;
+        flip(book, at);
     }
     Ok(())
 }

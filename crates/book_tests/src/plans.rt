@@ -1,24 +1,15 @@
 // Plans: tasks out of bounds, a full plan, ratios, the work of a job, and which plans are the same.
-use super::samples::{GOOD, account, equal, plan_of};
+use super::samples::{GOOD, account, plan_of, refuses_and_keeps};
 use plan::draft::Draft;
-use plan::fault::{Layer, Place, PlanFault};
+use plan::fault::{Layer, Place};
 use plan::plan::Plan;
 use std::process::Abort;
 use std::test::Fail;
 
 // Adding the draft to a plan of two tasks is refused with this number, and the plan stays.
 fn refused(rt: &impl Abort, draft: Draft, number: u8) -> Result<(), Fail> {
-    let before = plan_of(2)?;
-    let mut plan = before;
-    match plan.add(draft) {
-        Ok(_) => Err(Fail::new("accepted"))?,
-        Err(fault) => assert_eq!(rt;
-            fault.account(),
-            account(number, Layer::Record, Place::Task(2))
-        ),
-    }
-    assert!(rt; equal(&plan, &before));
-    Ok(())
+    let said = account(number, Layer::Record, Some(Place::Task(2)));
+    refuses_and_keeps(rt, plan_of(2)?, said, |plan| plan.add(draft))
 }
 
 #[test]
@@ -59,42 +50,36 @@ fn numbers_out_of_bounds(rt: HostRuntime) -> Result<(), Fail> {
 
 #[test]
 fn a_full_plan(rt: HostRuntime) -> Result<(), Fail> {
-    let before = plan_of(30)?;
-    let mut plan = before;
-    match plan.add(Draft { period: 0, ..GOOD }) {
-        Ok(_) => Err(Fail::new("accepted"))?,
-        Err(fault) => assert_eq!(rt; fault.account(), account(17, Layer::Plan, Place::Task(30))),
-    }
-    assert!(rt; equal(&plan, &before));
+    let said = account(17, Layer::Plan, Some(Place::Task(30)));
+    refuses_and_keeps(&rt, plan_of(30)?, said, |plan| {
+        plan.add(Draft { period: 0, ..GOOD })
+    })
+}
+
+// The ratio is taken as it is given.
+fn taken(rt: &impl Abort, p: u8, q: u8) -> Result<(), Fail> {
+    let mut plan = plan_of(1)?;
+    plan.set_ratio(p, q)?;
+    assert!(rt; plan.ratio().p == p && plan.ratio().q == q);
     Ok(())
 }
 
-// The ratio is taken exactly if it is in range.
-fn ratio(rt: &impl Abort, p: u8, q: u8, taken: bool) -> Result<(), Fail> {
-    let before = plan_of(1)?;
-    let mut plan = before;
-    match plan.set_ratio(p, q) {
-        Ok(()) => {
-            assert!(rt; taken && plan.ratio().p == p && plan.ratio().q == q);
-            Ok(())
-        },
-        Err(fault) => {
-            assert_eq!(rt; fault.account(), account(5, Layer::Plan, Place::Nowhere));
-            assert!(rt; !taken && equal(&plan, &before));
-            Ok(())
-        }
-    }
+// The ratio is out of range, and the plan keeps its own.
+fn out_of_range(rt: &impl Abort, p: u8, q: u8) -> Result<(), Fail> {
+    refuses_and_keeps(rt, plan_of(1)?, account(5, Layer::Plan, None), |plan| {
+        plan.set_ratio(p, q)
+    })
 }
 
 #[test]
 fn ratios(rt: HostRuntime) -> Result<(), Fail> {
-    ratio(&rt, 1, 1, true)?;
-    ratio(&rt, 16, 16, true)?;
-    ratio(&rt, 16, 1, true)?;
-    ratio(&rt, 0, 0, false)?;
-    ratio(&rt, 1, 2, false)?;
-    ratio(&rt, 17, 1, false)?;
-    ratio(&rt, 1, 0, false)
+    taken(&rt, 1, 1)?;
+    taken(&rt, 16, 16)?;
+    taken(&rt, 16, 1)?;
+    out_of_range(&rt, 0, 0)?;
+    out_of_range(&rt, 1, 2)?;
+    out_of_range(&rt, 17, 1)?;
+    out_of_range(&rt, 1, 0)
 }
 
 // The work of the one task of a plan with this ratio.
@@ -102,10 +87,10 @@ fn work(draft: Draft, p: u8, q: u8) -> Result<u32, Fail> {
     let mut plan = Plan::new();
     plan.set_ratio(p, q)?;
     let number = plan.add(draft)?;
-    match plan.task(number) {
-        Some(task) => Ok(task.job_work(plan.ratio())),
-        None => Err(Fail::new("no such task")),
-    }
+    let Some(task) = plan.task(number) else {
+        return Err(Fail::new("no such task"));
+    };
+    Ok(task.job_work(plan.ratio()))
 }
 
 #[test]

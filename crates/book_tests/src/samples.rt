@@ -2,7 +2,8 @@
 use plan::draft::Draft;
 use plan::fault::{Account, Layer, Place, PlanFault};
 use plan::plan::Plan;
-use plan::task::Task;
+use std::process::Abort;
+use std::test::Fail;
 
 pub const GOOD: Draft = Draft {
     period: 10,
@@ -31,36 +32,12 @@ pub fn plan_of(count: u8) -> Result<Plan, PlanFault> {
     Ok(plan)
 }
 
-fn same_task(a: &Task, b: &Task) -> bool {
-    a.period == b.period
-        && a.deadline == b.deadline
-        && a.work == b.work
-        && a.m == b.m
-        && a.k == b.k
-        && a.speed == b.speed
-}
-
-fn same_row(a: &Plan, b: &Plan, number: usize) -> bool {
-    let Some(x) = a.task(number) else {
-        return b.task(number).is_none();
-    };
-    let Some(y) = b.task(number) else {
-        return false;
-    };
-    same_task(&x, &y)
-}
-
-// Equal in every value, the speeds and the ratio too.
+// Equal in every value, the speeds and the ratio too. A plan has no `==`, since its spare rows would count.
 pub fn equal(a: &Plan, b: &Plan) -> bool {
-    for number in 0..31 {
-        if !same_row(a, b, number) {
-            return false;
-        }
-    }
-    a.ratio().p == b.ratio().p && a.ratio().q == b.ratio().q
+    a.tasks() == b.tasks() && a.ratio() == b.ratio()
 }
 
-pub fn account(number: u8, layer: Layer, place: Place) -> Account {
+pub fn account(number: u8, layer: Layer, place: Option<Place>) -> Account {
     Account {
         number,
         layer,
@@ -69,17 +46,40 @@ pub fn account(number: u8, layer: Layer, place: Place) -> Account {
     }
 }
 
-// Makes the words of a block add up to zero again.
-pub fn mend(block: &mut [u8]) {
-    if block.len() != 512 {
-        return;
-    }
-    block[28..32].copy_from_slice(&[0; 4]);
-    let mut sum: u32 = 0;
-    for word in block.chunks_exact(4) {
-        if let [b0, b1, b2, b3] = word {
-            sum = sum.wrapping_add(u32::from_le_bytes([*b0, *b1, *b2, *b3]));
-        }
-    }
-    block[28..32].copy_from_slice(&sum.wrapping_neg().to_le_bytes());
+// The call refused, and this is the account of it.
+pub fn refuses<T: Drop, F: Into<Account> + Drop>(
+    rt: &impl Abort,
+    answer: Result<T, F>,
+    said: Account,
+) -> Result<(), Fail> {
+    let told: Option<Account> = answer.err().map(F::into);
+    assert_eq!(rt; told, Some(said));
+    Ok(())
+}
+
+// The call on the plan refused with this account, and left the plan as it was.
+pub fn refuses_and_keeps<T: Drop, F: Into<Account> + Drop, C: FnOnce(&mut Plan) -> Result<T, F>>(
+    rt: &impl Abort,
+    before: Plan,
+    said: Account,
+    call: C,
+) -> Result<(), Fail>
+    requires { C.IsAlwaysCallable call }
+{
+    let mut plan = before;
+    refuses(rt, call(&mut plan), said)?;
+    assert!(rt; equal(&plan, &before));
+    Ok(())
+}
+
+// Whether the words of a block add up to zero, found in another way than the library's: byte by byte.
+pub fn adds_up(block: &[u8; 512]) -> bool {
+    let weights = [1u32, 1 << 8, 1 << 16, 1 << 24];
+    let sum = block
+        .iter()
+        .zip(weights.iter().cycle())
+        .fold(0u32, |sum, (byte, weight)| {
+            sum.wrapping_add(u32::from(*byte).wrapping_mul(*weight))
+        });
+    sum == 0
 }

@@ -1,29 +1,18 @@
 -- What holds under every lawful policy. Assumes nothing.
-use Rattle.std.proofs.Common.{◌≡◌, ℕ, zero, suc, ◌+◌, ◌*◌, ◌/◌, ◌%◌, ◌^◌, ◌<◌, ◌≤◌, true, false, sym, ap, ◌∙◌, ⊎_elim, mod-lt, div-add-mod', arith}
-use native.Mathlib.Nat.{mod-add-mod, add-mod_right}
+use Rattle.std.proofs.Common.{◌≡◌, ℕ, ◌+◌, ◌%◌, ◌^◌, ◌<◌, ◌≤◌, true, false, sym, ap, ◌∙◌, ⊎_elim, mod-lt, arith}
+use Rattle.std.proofs.Math.Nat.{mod-add-mod, add-mod_right}
 use Rattle.std.proofs.lemmas.Bool.{cases_Bool}
 use Rattle.pattern.specs.Policy.{Meaning, Lawful, in_range, marks, mandatory, MandatoryAreMarked, RepeatsForEver, EnoughAnywhere, NoneOutside}
 use Rattle.pattern.specs.Sums.{marks_same}
-use Rattle.pattern.specs.Ranges.{in_range_parts}
+use Rattle.pattern.specs.Ranges.{in_range_parts, as_in_the_first}
 
 module _ (p : Meaning) (lawful : Lawful p) (task m k : ℕ) where
-  -- any number n of lengths further on, below 2^32, the mark is the same
-  marks_go_on : (n j : ℕ) → in_range task m k ≡ true → j + n * p.length task m k < 2 ^ 32 → p.mark task m k (j + n * p.length task m k) ≡ p.mark task m k j
-  marks_go_on zero j h below = ap (p.mark task m k) (omega arith)
-  marks_go_on (suc n) j h below =
-      let L = p.length task m k in
-      let step : j + suc n * L ≡ j + n * L + L = omega arith in
-      ap (p.mark task m k) step ∙ lawful.repeats task m k (j + n * L) h (omega arith) ∙ marks_go_on n j h (omega arith)
-
   -- the place of a job in the pattern is far below 2^32
   place_below : (j : ℕ) → j % p.length task m k < 64
   place_below j = omega (arith, mod-lt j (lawful.some task m k), lawful.short task m k)
 
   marked_in_range : (j : ℕ) → in_range task m k ≡ true → j < 2 ^ 32 → mandatory p task m k j ≡ p.mark task m k j
-  marked_in_range j h below =
-      let L = p.length task m k in
-      let whole : j % L + j / L * L ≡ j = omega (arith, div-add-mod' j L) in
-      sym (marks_go_on (j / L) (j % L) h (omega arith)) ∙ ap (p.mark task m k) whole
+  marked_in_range j h below = as_in_the_first (p.mark task m k) (p.length task m k) (2 ^ 32) (λ i. lawful.repeats task m k i h) j below
 
   none_mandatory : (j : ℕ) → in_range task m k ≡ false → mandatory p task m k j ≡ false
   none_mandatory j h = lawful.none task m k (j % p.length task m k) h (omega (arith, place_below j))

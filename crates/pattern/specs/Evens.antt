@@ -1,15 +1,16 @@
 -- How the marks of Even are counted and repeat, and that Even is lawful. Assumes nothing.
-use Rattle.std.specs.Prelude.{◌≡◌, ℕ, ◌+◌, ◌*◌, ◌/◌, ◌<◌, ◌≤◌, true, false, cond, ◌==◌, nat_eq}
+use Rattle.std.specs.Prelude.{◌≡◌, ℕ, ◌+◌, ◌*◌, ◌/◌, ◌<◌, ◌≤◌, true, false, ◌==◌, if◌then◌else◌}
 use Rattle.std.proofs.Common.{sym, ap, ◌∙◌, ⊎_elim, add-mul, mul_comm, arith}
 use Rattle.std.proofs.Math.Nat.{div-eq_of_lt-le, add-mul-div_right}
 use Rattle.std.proofs.lemmas.Nat.{le-div}
-use Rattle.std.proofs.lemmas.Bool.{cases_lt, eq-eqb, ne_eqb, cond-true, cond-false}
+use Rattle.std.proofs.lemmas.Bool.{cases_lt, eq-eqb, ne_eqb}
 use Rattle.std.proofs.lemmas.Bool.Decides.{nat_tests}
+use Rattle.std.proofs.lemmas.Grind.{div_ceil_times}
 use Rattle.pattern.specs.Policy.{Lawful}
 use Rattle.plan.specs.Rounding.{ceil}
 use Rattle.pattern.specs.Even.{even_marks, even, EvenForEver, EvenMarksOfAStretch, EvenMarksMOfK}
 use Rattle.pattern.specs.Sums.{sum_telescopes}
-use Rattle.pattern.specs.Ceilings.{ceil_above, ceil_below, ceil_is, ceil_more}
+use Rattle.pattern.specs.Ceilings.{ceil_is, ceil_more}
 use Rattle.pattern.specs.Ranges.{ranged_for_ever, ranged_lawful}
 
 -- q stands for ceil(j × m / k). Job j is marked exactly if the multiple q × k falls into the m numbers from j × m on.
@@ -28,19 +29,18 @@ module _ (m k j q : ℕ) (some : 1 ≤ m) (within : m ≤ k) (above : j * m ≤ 
       )
 
 -- ceil(j × m / k) rises by one at a marked job, and stays at any other.
-pub even_rises : (m k j : ℕ) → 1 ≤ m → m ≤ k → cond (even_marks m k j) 1 0 + ceil (j * m) k ≡ ceil ((j + 1) * m) k
+pub even_rises : (m k j : ℕ) → 1 ≤ m → m ≤ k → (if even_marks m k j then 1 else 0) + ceil (j * m) k ≡ ceil ((j + 1) * m) k
 even_rises m k j some within =
     let q = ceil (j * m) k in
-    let above = ceil_above (j * m) k (omega arith) in
-    let below = ceil_below (j * m) k (omega arith) in
+    let own = div_ceil_times (j * m) k (omega arith) in
     ⊎_elim
-    (λ h. let r = rises_if_marked m k j q some within above below h in omega (arith, cond-true {A = ℕ} (even_marks m k j) 1 0 r.0, r.1))
-    (λ h. let r = stays_if_unmarked m k j q some within above below h in omega (arith, cond-false {A = ℕ} (even_marks m k j) 1 0 r.0, r.1))
+    (λ h. let r = rises_if_marked m k j q some within own.0 own.1 h in rw r.0 (omega (arith, r.1)))
+    (λ h. let r = stays_if_unmarked m k j q some within own.0 own.1 h in rw r.0 (omega (arith, r.1)))
     (cases_lt (q * k) ((j + 1) * m))
 
 pub even_marks_of_a_stretch : EvenMarksOfAStretch
 even_marks_of_a_stretch m k a n some within =
-    sum_telescopes (λ j. cond (even_marks m k j) 1 0) (λ j. ceil (j * m) k) (λ j. even_rises m k j some within) a n
+    sum_telescopes (λ j. if even_marks m k j then 1 else 0) (λ j. ceil (j * m) k) (λ j. even_rises m k j some within) a n
 
 -- k jobs later ceil(j × m / k) is m more.
 ceil_after_k : (m k j : ℕ) → 0 < k → ceil ((j + k) * m) k ≡ ceil (j * m) k + m
@@ -50,15 +50,12 @@ pub even_marks_m_of_k : EvenMarksMOfK
 even_marks_m_of_k m k a some within =
     omega (arith, even_marks_of_a_stretch m k a k some within, ceil_after_k m k a (omega arith))
 
-eqb_moved : (a b n : ℕ) → (a + n == b + n) ≡ (a == b)
-eqb_moved a b n = grind (arith, nat_tests)
-
 pub even_repeats : (m k j : ℕ) → 1 ≤ m → m ≤ k → even_marks m k (j + k) ≡ even_marks m k j
 even_repeats m k j some within =
     let q = ceil (j * m) k in
     let later : ceil ((j + k) * m) k * k ≡ q * k + k * m =
     ap (λ n. n * k) (ceil_after_k m k j (omega arith)) ∙ omega (arith, add-mul q m k, mul_comm k m) in
-    ap (λ n. nat_eq (j + k) (n / m)) later ∙ ap (nat_eq (j + k)) (add-mul-div_right (q * k) k some) ∙ eqb_moved j (q * k / m) k
+    rw (later, add-mul-div_right (q * k) k some) (grind (arith, nat_tests))
 
 pub even_for_ever : EvenForEver
 even_for_ever = ranged_for_ever (λ task m k j. even_marks m k j) (λ task m k j. even_repeats m k j)

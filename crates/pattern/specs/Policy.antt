@@ -1,5 +1,5 @@
 -- What a pattern policy means, the laws of its meaning, and which jobs are mandatory under it. Assumes nothing.
-use Rattle.std.specs.Prelude.{◌≡◌, ℕ, ◌+◌, ◌%◌, ◌^◌, ◌<◌, ◌≤◌, Bool, true, false, cond, ◌&&◌, Decides, nat_le}
+use Rattle.std.specs.Prelude.{◌≡◌, ℕ, ◌+◌, ◌%◌, ◌^◌, ◌<◌, ◌≤◌, Bool, true, false, ◌&&◌, nat_le, if◌then◌else◌, IsTrue, ◌↔◌}
 use Rattle.pattern.specs.Sum.{Sum}
 
 -- Of a task number, m and k: after how many jobs the marks repeat, and whether a job is marked.
@@ -13,7 +13,7 @@ in_range task m k = nat_le task 29 && nat_le 1 m && nat_le m k && nat_le k 32
 
 -- How many of the n jobs from job a on are marked.
 abbrev pub marks : (ℕ → Bool) → (a n : ℕ) → ℕ
-marks marked a n = Sum n (λ i. cond (marked (a + i)) 1 0)
+marks marked a n = Sum n (λ i. if marked (a + i) then 1 else 0)
 
 -- What every policy owes. A job number has 32 bits, and no law speaks of a mark from 2^32 on.
 pub record Lawful (p : Meaning) : Type 0 where
@@ -30,7 +30,7 @@ pub record Lawful (p : Meaning) : Type 0 where
 
 -- The policy that has in range the length k and these marks, and out of range the length 1 and no mark.
 abbrev pub ranged : ((task m k job : ℕ) → Bool) → Meaning
-ranged marked = record { length = λ task m k. cond (in_range task m k) k 1; mark = λ task m k job. in_range task m k && marked task m k job }
+ranged marked = record { length = λ task m k. if in_range task m k then k else 1; mark = λ task m k job. in_range task m k && marked task m k job }
 
 -- Whether job j is mandatory, for every j: from 2^32 on the marks go on repeating by the length.
 abbrev pub mandatory : Meaning → (task m k j : ℕ) → Bool
@@ -38,7 +38,7 @@ mandatory p task m k j = p.mark task m k (j % p.length task m k)
 
 -- The test in_range is that of the four bounds.
 abbrev pub InRangeDecides : Type 0
-InRangeDecides = (task m k : ℕ) → Decides (in_range task m k) ((task ≤ 29) × (1 ≤ m) × (m ≤ k) × (k ≤ 32))
+InRangeDecides = (task m k : ℕ) → IsTrue (in_range task m k) ↔ ((task ≤ 29) × (1 ≤ m) × (m ≤ k) × (k ≤ 32))
 
 -- Below 2^32 the mandatory jobs are the marked ones.
 abbrev pub MandatoryAreMarked : Type 0

@@ -1,6 +1,6 @@
 -- How the marks of Red are counted and repeat, and that Red is lawful. Assumes nothing.
-use Rattle.std.specs.Prelude.{◌≡◌, ℕ, ◌+◌, ◌*◌, ◌/◌, ◌%◌, ◌<◌, ◌≤◌, min, cond, ltb, nat_lt}
-use Rattle.std.proofs.Common.{ap, ◌∙◌, ⊎_elim, add-mul, mod-lt, div-add-mod', arith}
+use Rattle.std.specs.Prelude.{◌≡◌, ℕ, ◌+◌, ◌*◌, ◌/◌, ◌%◌, ◌<◌, ◌≤◌, min, nat_lt, if◌then◌else◌}
+use Rattle.std.proofs.Common.{⊎_elim, add-mul, mod-lt, div-add-mod', arith}
 use Rattle.std.proofs.Math.Nat.{add-mod_right}
 use Rattle.std.proofs.lemmas.Nat.{div-mul-add, mod-mul-add}
 use Rattle.std.proofs.lemmas.Bool.{cases_lt}
@@ -15,16 +15,13 @@ abbrev red_before : (m k j : ℕ) → ℕ
 red_before m k j = j / k * m + min (j % k) m
 
 red_before_at : (m k j q r : ℕ) → r < k → j ≡ q * k + r → red_before m k j ≡ q * m + min r m
-red_before_at m k j q r h e =
-    let whole : j / k ≡ q = ap (λ n. n / k) e ∙ div-mul-add q k r h in
-    let rest : j % k ≡ r = ap (λ n. n % k) e ∙ mod-mul-add q k r h in
-    omega (arith, ap (λ n. n * m) whole)
+red_before_at m k j q r h e = rw (e, div-mul-add q k r h, mod-mul-add q k r h)
 
-one_more : (r m : ℕ) → cond (nat_lt r m) 1 0 + min r m ≡ min (r + 1) m
+one_more : (r m : ℕ) → (if nat_lt r m then 1 else 0) + min r m ≡ min (r + 1) m
 one_more r m = grind (arith, nat_tests)
 
 -- The marks below job j rise by one at a marked job, and stay at any other.
-red_rises : (m k j : ℕ) → 1 ≤ m → m ≤ k → cond (red_marks m k j) 1 0 + red_before m k j ≡ red_before m k (j + 1)
+red_rises : (m k j : ℕ) → 1 ≤ m → m ≤ k → (if red_marks m k j then 1 else 0) + red_before m k j ≡ red_before m k (j + 1)
 red_rises m k j some within =
     let q = j / k in
     let r = j % k in
@@ -39,10 +36,10 @@ red_marks_m_of_k m k a some within =
     let q = a / k in
     let later : red_before m k (a + k) ≡ (q + 1) * m + min (a % k) m =
     red_before_at m k (a + k) (q + 1) (a % k) (mod-lt a (omega arith)) (omega (arith, div-add-mod' a k, add-mul q 1 k)) in
-    omega (arith, sum_telescopes (λ j. cond (red_marks m k j) 1 0) (red_before m k) (λ j. red_rises m k j some within) a k, add-mul q 1 m)
+    omega (arith, sum_telescopes (λ j. if red_marks m k j then 1 else 0) (red_before m k) (λ j. red_rises m k j some within) a k, add-mul q 1 m)
 
 red_repeats : (m k j : ℕ) → red_marks m k (j + k) ≡ red_marks m k j
-red_repeats m k j = ap (λ n. ltb n m) (add-mod_right j k)
+red_repeats m k j = rw add-mod_right
 
 pub red_for_ever : RedForEver
 red_for_ever = ranged_for_ever (λ task m k j. red_marks m k j) (λ task m k j some within. red_repeats m k j)

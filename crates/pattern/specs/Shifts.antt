@@ -1,5 +1,5 @@
 -- How the marks of Shifted come from those of Even, and that Shifted is lawful. Assumes nothing.
-use Rattle.std.specs.Prelude.{◌≡◌, ℕ, ◌+◌, ◌≤◌, List, slice_index, slice_index_or}
+use Rattle.std.specs.Prelude.{◌≡◌, ℕ, ◌+◌, ◌≤◌, List, slice_index}
 use Rattle.std.proofs.Common.{ap, ◌∙◌, arith}
 use Rattle.pattern.specs.Policy.{Lawful}
 use Rattle.pattern.specs.Even.{even_marks}
@@ -14,7 +14,7 @@ shifted_repeats shifts task m k j some within =
 
 pub shifted_marks_m_of_k : ShiftedMarksMOfK
 shifted_marks_m_of_k shifts task m k a some within =
-    let from = a + slice_index_or shifts task 0 in
+    let from = a + slice_index shifts task in
     marks_same (shifted_marks shifts task m k) (even_marks m k) a from k (λ i _. ap (even_marks m k) (omega arith))
     ∙ even_marks_m_of_k m k from some within
 

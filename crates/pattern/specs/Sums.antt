@@ -1,5 +1,5 @@
 -- Laws of the finite sum, and of the number of marks, which is one. Assumes nothing.
-use Rattle.std.specs.Prelude.{◌≡◌, ℕ, zero, suc, ◌+◌, ◌<◌, Bool, cond, refl}
+use Rattle.std.specs.Prelude.{◌≡◌, ℕ, zero, suc, ◌+◌, ◌<◌, Bool, if◌then◌else◌, refl}
 use Rattle.std.proofs.Common.{ap, arith}
 use Rattle.pattern.specs.Sum.{Sum}
 use Rattle.pattern.specs.Policy.{marks}
@@ -21,4 +21,4 @@ sum_telescopes f F rises a (suc n) =
 -- Marks that agree job by job over a stretch are equally many.
 pub marks_same : (f g : ℕ → Bool) (a b n : ℕ) → ((i : ℕ) → i < n → f (a + i) ≡ g (b + i)) → marks f a n ≡ marks g b n
 marks_same f g a b n same =
-    sum_same n (λ i. cond (f (a + i)) 1 0) (λ i. cond (g (b + i)) 1 0) (λ i h. ap (λ (x : Bool). cond x 1 0) (same i h))
+    sum_same n (λ i. if f (a + i) then 1 else 0) (λ i. if g (b + i) then 1 else 0) (λ i h. rw (same i h))

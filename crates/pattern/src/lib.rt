@@ -1,6 +1,7 @@
 // Pattern policies: which jobs of a task are mandatory under an (m,k) constraint.
 #![tactic(auto)]
 
+mod constraint;
 pub mod even;
 pub mod policy;
 pub mod red;

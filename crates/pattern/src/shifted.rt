@@ -1,12 +1,12 @@
 // The policy Shifted: the marks of Even, begun for each task at a job of its own.
 ghost use Rattle.std.specs.Prelude.{◌≡◌};
-ghost use Rattle.pattern.specs.Shifted.{shifted};
+ghost use Rattle.pattern.specs.Shifted.{shifted_marks};
 ghost use Rattle.pattern.specs.Shifts.{shifted_lawful};
 
-use crate::even::even_marks;
-use crate::policy::{Pattern, in_range, length_k};
+use crate::constraint::Constraint;
+use crate::policy::Ranged;
 
-#[derive(Clone, Copy)]
+#[derive(Clone, Copy, Debug, PartialEq, Eq)]
 pub struct Shifted {
     // by how many jobs the marks of each task are moved
     shifts: [u8; 30],
@@ -20,16 +20,12 @@ impl Shifted {
     }
 }
 
-impl Pattern for Shifted {
-    ghost meaning = { λ p. shifted p.shifts };
+impl Ranged for Shifted {
+    ghost marked = { λ p. shifted_marks p.shifts };
 
     ghost lawful = { λ p. shifted_lawful p.shifts };
 
-    fn length(&self, task: usize, m: u8, k: u8) -> u8 {
-        length_k(task, m, k)
-    }
-
-    fn mark(&self, task: usize, m: u8, k: u8, job: u32) -> bool {
-        in_range(task, m, k) && even_marks(m, k, u64::from(job) + u64::from(self.shifts[task]))
+    fn mark_in_range(&self, constraint: Constraint, job: u32) -> bool {
+        constraint.even_marks(u64::from(job) + u64::from(self.shifts[constraint.task]))
     }
 }

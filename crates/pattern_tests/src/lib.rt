@@ -7,17 +7,13 @@ mod tests {
     use pattern::policy::Pattern;
     use pattern::red::Red;
     use pattern::shifted::Shifted;
+    use std::iter::successors;
 
     // Whether the policy marks the jobs of task 29 from this one on as the text shows them, 1 for a marked job.
     fn shows<P: Pattern>(policy: &P, m: u8, k: u8, first: u32, text: &[u8]) -> bool {
-        let mut job = first;
-        for c in text {
-            if policy.mark(29, m, k, job) != (*c == b'1') {
-                return false;
-            }
-            job = job.wrapping_add(1);
-        }
-        true
+        text.iter()
+            .zip(first..=u32::MAX)
+            .all(|(c, job)| policy.mark(29, m, k, job) == (*c == b'1'))
     }
 
     #[test]
@@ -41,34 +37,26 @@ mod tests {
     // Even's marks without a product: a mark is due while less than m is left of the k that the last one brought.
     // The first 64 jobs are two periods and more. The policy's job 0 is Even's job `shift`.
     fn marks_when_due<P: Pattern>(policy: &P, m: u8, k: u8, shift: u8) -> bool {
-        let mut left = 0u8;
-        let first = u32::from(shift);
-        for job in 0..first + 64 {
-            let due = left < m;
-            if job >= first && policy.mark(7, m, k, job - first) != due {
-                return false;
-            }
-            if due {
-                left = left.wrapping_add(k);
-            }
-            left = left.wrapping_sub(m);
-        }
-        policy.length(7, m, k) == k
+        let left = successors(Some(0u8), move |left| {
+            let brought = if *left < m {
+                left.wrapping_add(k)
+            } else {
+                *left
+            };
+            Some(brought.wrapping_sub(m))
+        });
+        (0..64u32)
+            .zip(left.skip(usize::from(shift)))
+            .all(|(job, left)| policy.mark(7, m, k, job) == (left < m))
+            && policy.length(7, m, k) == k
     }
 
-    // Red's marks without a remainder: a place that is counted from 0 to k − 1.
+    // Red's marks without a remainder: a place that is counted from 0 to k − 1, again and again.
     fn marks_the_first(m: u8, k: u8) -> bool {
-        let mut place = 0u8;
-        for job in 0..64u32 {
-            if Red.mark(7, m, k, job) != (place < m) {
-                return false;
-            }
-            place = place.wrapping_add(1);
-            if place == k {
-                place = 0;
-            }
-        }
-        Red.length(7, m, k) == k
+        (0..64u32)
+            .zip((0..k).cycle())
+            .all(|(job, place)| Red.mark(7, m, k, job) == (place < m))
+            && Red.length(7, m, k) == k
     }
 
     #[test]
@@ -78,34 +66,40 @@ mod tests {
         let near = Shifted::new(shifts);
         shifts[7] = 255;
         let far = Shifted::new(shifts);
-        for k in 1..33u8 {
-            for m in 1..33u8 {
-                if m <= k {
-                    assert!(rt; marks_when_due(&Even, m, k, 0) && marks_the_first(m, k));
-                    assert!(rt; marks_when_due(&near, m, k, 5) && marks_when_due(&far, m, k, 255));
-                }
+        for k in 1..=32u8 {
+            for m in 1..=k {
+                assert!(rt;
+                    marks_when_due(&Even, m, k, 0) && marks_the_first(m, k),
+                    "({m},{k})"
+                );
+                assert!(rt;
+                    marks_when_due(&near, m, k, 5) && marks_when_due(&far, m, k, 255),
+                    "({m},{k})"
+                );
             }
         }
     }
 
     // Whether the length is 1 and nothing is marked.
     fn silent<P: Pattern>(policy: &P, task: usize, m: u8, k: u8) -> bool {
-        for job in 0..64u32 {
-            if policy.mark(task, m, k, job) || policy.mark(task, m, k, u32::MAX - job) {
-                return false;
-            }
-        }
-        policy.length(task, m, k) == 1
+        (0..64u32)
+            .flat_map(|job| [job, u32::MAX - job])
+            .all(|job| !policy.mark(task, m, k, job))
+            && policy.length(task, m, k) == 1
     }
 
     fn silent_outside<P: Pattern>(policy: &P) -> bool {
-        silent(policy, 30, 1, 1)
-            && silent(policy, usize::MAX, 3, 7)
-            && silent(policy, 0, 0, 7)
-            && silent(policy, 0, 0, 0)
-            && silent(policy, 0, 8, 7)
-            && silent(policy, 0, 1, 33)
-            && silent(policy, 0, 255, 255)
+        [
+            (30, 1, 1),
+            (usize::MAX, 3, 7),
+            (0, 0, 7),
+            (0, 0, 0),
+            (0, 8, 7),
+            (0, 1, 33),
+            (0, 255, 255),
+        ]
+        .iter()
+        .all(|&(task, m, k)| silent(policy, task, m, k))
     }
 
     #[test]

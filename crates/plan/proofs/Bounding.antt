@@ -1,6 +1,6 @@
 -- Every row of a plan keeps the bounds of its type, so the plan's task set does. Assumes nothing.
-use Rattle.std.proofs.Common.{ℕ, zero, suc, ◌<◌, List, [], ◌∷◌, map, length, get_or, take, not-suc-le-zero, arith}
-use Rattle.plan.proofs.Listed.{tasks_are_count}
+use Rattle.std.proofs.Common.{ℕ, zero, suc, ◌<◌, List, [], ◌∷◌, map, length, get_or, take, not-suc-le-zero, arith, length-take}
+use Rattle.std.proofs.lemmas.List.{length-map}
 use Rattle.plan.specs.Bounded.{PlanIsBounded, absent}
 use Rattle.plan.specs.Bounds.{Timed, Constrained}
 use Rattle.plan.specs.TaskSet.{parameters}
@@ -18,7 +18,7 @@ rows_keep (t ∷ rows) (suc n) (suc i) h = rows_keep rows n i (omega arith)
 
 pub plan_is_bounded : PlanIsBounded
 plan_is_bounded plan = record {
-  few = omega (arith, tasks_are_count plan, plan.few);
+  few = simp (length-map, length-take) (omega (arith, plan.few));
   timed = λ i h. (rows_keep plan.rows plan.count i h).0;
   constrained = λ i h. (rows_keep plan.rows plan.count i h).1;
   geared = plan.ratio.geared;

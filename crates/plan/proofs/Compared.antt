@@ -1,46 +1,48 @@
--- Two plans are the same exactly if their rows below equal counts agree, one by one. Assumes nothing.
-use Rattle.std.proofs.Common.{◌≡◌, ℕ, ◌+◌, ◌<◌, List, [], ◌∷◌, ◌++◌, map, length, get_or, take, sym, ap, ◌∙◌, arith, length-take}
-use Rattle.std.proofs.lemmas.List.{length-map, get_or-map, get_or-take, get_or_default, map_more, map_push}
-use Rattle.plan.proofs.Listed.{tasks_are_count}
-use Rattle.plan.specs.TaskSet.{Same, task_set, parameters, timing}
-use Rattle.plan.specs.declared.plan.Plan.{Plan}
+-- Two lists of tasks have the same timings exactly if they are equally long and agree pair by pair. Assumes nothing.
+use Rattle.std.proofs.Common.{◌≡◌, ◌↔◌, ℕ, zero, suc, ◌<◌, Bool, true, false, List, [], ◌∷◌, map, length, get_or, subst, sym, refl, ap, ◌∙◌, not-suc-le-zero, arith}
+use Rattle.std.proofs.lemmas.Bool.{false≢true}
+use Rattle.std.proofs.lemmas.List.{length-map}
+use Rattle.std.specs.Bool.{IsTrue, MatchBool}
+use Rattle.std.specs.List.{zip, AllWithin, HoldsAt}
+use Rattle.plan.specs.TaskSet.{Parameters, Timing, parameters, timing}
 use Rattle.plan.specs.declared.task.Task.{Task}
 
-pub same_counts : (a b : Plan) → Same (task_set a) (task_set b) → a.count ≡ b.count
-same_counts a b same =
-    let lengths : length (task_set a).tasks ≡ length (task_set b).tasks =
-    sym (length-map (task_set a).tasks timing) ∙ ap length same ∙ length-map (task_set b).tasks timing in
-    sym (tasks_are_count a) ∙ lengths ∙ tasks_are_count b
+abbrev pub Agree : Task × Task → Type 0
+Agree pair = timing (parameters pair.0) ≡ timing (parameters pair.1)
 
--- the timing that stands at i in a plan is that of its row i
-timing_at : (p : Plan) (i : ℕ) (d : Task) → i < p.count → get_or (map timing (task_set p).tasks) i (timing (parameters d)) ≡ timing (parameters (get_or p.rows i d))
-timing_at p i d below =
-    let inside : i < length (take p.count p.rows) = simp length-take (omega (arith, p.few, p.wide)) in
-    let listed : i < length (task_set p).tasks = omega (arith, tasks_are_count p) in
-    get_or-map timing (task_set p).tasks i (parameters d) (timing (parameters d)) listed ∙
-    ap timing (get_or-map parameters (take p.count p.rows) i d (parameters d) inside) ∙
-    ap (λ t. timing (parameters t)) (get_or-take p.count p.rows i d below)
+abbrev pub timings : List Task → List Timing
+timings tasks = map timing (map parameters tasks)
 
-pub same_at : (a b : Plan) (i : ℕ) (x y : Task) → Same (task_set a) (task_set b) → i < a.count
-    → timing (parameters (get_or a.rows i x)) ≡ timing (parameters (get_or b.rows i y))
-same_at a b i x y same below =
-    let other : i < b.count = omega (arith, same_counts a b same) in
-    sym (timing_at a i x below) ∙
-    ap (λ ts. get_or ts i (timing (parameters x))) same ∙
-    timing_at b i x other ∙
-    ap (λ t. timing (parameters t)) (get_or_default b.rows i x y (omega (arith, b.few, b.wide)))
+-- lists whose pairs agree have the same timings
+pub timings-zip : (xs ys : List Task) → length xs ≡ length ys → ((k : ℕ) (d : Task × Task) → k < length (zip xs ys) → Agree (get_or (zip xs ys) k d)) → timings xs ≡ timings ys
+timings-zip [] [] long agree = refl
+timings-zip [] (y ∷ ys) long agree = absurd (omega arith)
+timings-zip (x ∷ xs) [] long agree = absurd (omega arith)
+timings-zip (x ∷ xs) (y ∷ ys) long agree =
+    ap (λ t. t ∷ timings xs) (agree 0 (x, y) (omega arith)) ∙
+    ap (λ ts. timing (parameters y) ∷ ts) (timings-zip xs ys (omega arith) (λ k d below. agree (suc k) d (omega arith)))
 
-timings_more : (rows : List Task) (i : ℕ) (d : Task) → i < length rows
-    → map timing (map parameters (take (i + 1) rows)) ≡ map timing (map parameters (take i rows)) ++ (timing (parameters (get_or rows i d)) ∷ [])
-timings_more rows i d below =
-    ap (map timing) (map_more parameters rows i d below) ∙ map_push timing (map parameters (take i rows)) (parameters (get_or rows i d))
+-- every pair of lists with the same timings agrees
+pub pair_agrees : (xs ys : List Task) (k : ℕ) (d : Task × Task) → timings xs ≡ timings ys → k < length (zip xs ys) → Agree (get_or (zip xs ys) k d)
+pair_agrees [] ys k d same below = absurd (not-suc-le-zero below)
+pair_agrees (x ∷ xs) [] k d same below = absurd (not-suc-le-zero below)
+pair_agrees (x ∷ xs) (y ∷ ys) zero d same below = cc
+pair_agrees (x ∷ xs) (y ∷ ys) (suc k) d same below = pair_agrees xs ys k d (cc) (omega arith)
 
-pub agree_more : (a b : Plan) (i : ℕ) (x y : Task) → i < a.count → i < b.count
-    → map timing (map parameters (take i a.rows)) ≡ map timing (map parameters (take i b.rows))
-    → timing (parameters (get_or a.rows i x)) ≡ timing (parameters (get_or b.rows i y))
-    → map timing (map parameters (take (i + 1) a.rows)) ≡ map timing (map parameters (take (i + 1) b.rows))
-agree_more a b i x y in-a in_b before here =
-    timings_more a.rows i x (omega (arith, a.few, a.wide)) ∙
-    ap (λ ts. ts ++ (timing (parameters (get_or a.rows i x)) ∷ [])) before ∙
-    ap (λ t. map timing (map parameters (take i b.rows)) ++ (t ∷ [])) here ∙
-    sym (timings_more b.rows i y (omega (arith, b.few, b.wide)))
+-- what `all` answers of their pairs decides whether two equally long lists have the same timings
+decided : (xs ys : List Task) (r : Bool) → length xs ≡ length ys
+    → MatchBool r (AllWithin Agree (zip xs ys) 0 (length (zip xs ys))) ((k : ℕ) × (k < length (zip xs ys)) × HoldsAt (λ pair. Agree pair → ⊥) (zip xs ys) k)
+    → IsTrue r ↔ (timings xs ≡ timings ys)
+decided xs ys true long agree = (λ _. timings-zip xs ys long (λ k d below. agree k d (omega arith) below), λ _. refl)
+decided [] ys false long (k, below, differ) = absurd (not-suc-le-zero below)
+decided (x ∷ xs) [] false long (k, below, differ) = absurd (not-suc-le-zero below)
+decided (x ∷ xs) (y ∷ ys) false long (k, below, differ) =
+    (λ e. absurd (false≢true e), λ same. absurd (differ (x, y) (pair_agrees (x ∷ xs) (y ∷ ys) k (x, y) same below)))
+
+-- the same, of the task sets that the lists show
+pub shown_decided : (xs ys : List Task) (firsts seconds : List Parameters) (r : Bool) → map parameters xs ≡ firsts → map parameters ys ≡ seconds → length firsts ≡ length seconds
+    → MatchBool r (AllWithin Agree (zip xs ys) 0 (length (zip xs ys))) ((k : ℕ) × (k < length (zip xs ys)) × HoldsAt (λ pair. Agree pair → ⊥) (zip xs ys) k)
+    → IsTrue r ↔ (map timing firsts ≡ map timing seconds)
+shown_decided xs ys firsts seconds r first second long found =
+    let even : length xs ≡ length ys = sym (length-map xs parameters) ∙ ap length first ∙ long ∙ sym (ap length second) ∙ length-map ys parameters in
+    subst (λ ts. IsTrue r ↔ (map timing ts ≡ map timing seconds)) first (subst (λ ts. IsTrue r ↔ (timings xs ≡ map timing ts)) second (decided xs ys r even found))

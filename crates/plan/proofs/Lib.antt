@@ -1,5 +1,3 @@
-pub mod Added
 pub mod Answered
 pub mod Bounding
 pub mod Compared
-pub mod Listed

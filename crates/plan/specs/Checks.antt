@@ -34,6 +34,10 @@ parameters_of d = record {
 abbrev pub refuse_if : {E : Type 0} → Bool → E → Option E → Option E
 refuse_if bad e rest = cond bad (Some e) rest
 
+-- the check of a speed: it is 0 or 1
+abbrev pub speed_error : ℕ → Option RecordError
+speed_error n = refuse_if (nat_lt 1 n) SpeedOrRest None
+
 -- the first check that the numbers of a task fail
 abbrev pub first_error : Draft → Option RecordError
 first_error d =
@@ -41,25 +45,24 @@ first_error d =
     (refuse_if (d.deadline == 0 || nat_lt d.period d.deadline) Deadline
     (refuse_if (d.work == 0 || nat_lt d.deadline d.work) Work
     (refuse_if (d.m == 0 || (nat_lt d.k d.m || nat_lt 32 d.k)) Constraint
-    (refuse_if (nat_lt 1 d.speed) SpeedOrRest
-    None))))
+    (speed_error d.speed))))
 
 -- a fault at that place
-abbrev pub fault_at : Place → RecordError → RecordFault
+abbrev pub fault_at : Option Place → RecordError → RecordFault
 fault_at at e = record { error = e; place = at }
 
-abbrev pub record_fault : Draft → Place → Option RecordFault
+abbrev pub record_fault : Draft → Option Place → Option RecordFault
 record_fault d at = option_map (fault_at at) (first_error d)
 
 -- the task that the numbers give, or the first fault, at the place that its reader gives
-abbrev pub checked : Draft → Place → Result Parameters RecordFault
+abbrev pub checked : Draft → Option Place → Result Parameters RecordFault
 checked d at = answer (record_fault d at) (parameters_of d)
 
 -- why a task cannot be added: 30 tasks first, then its numbers, at the number that it would have had
 abbrev pub add_fault : TaskSet → Draft → Option PlanFault
 add_fault set d =
     refuse_if (nat_le 30 (length set.tasks)) plan.Full
-    (option_map in_plan (record_fault d (place.Task (length set.tasks))))
+    (option_map in_plan (record_fault d (Some (place.Task (length set.tasks)))))
 
 abbrev pub with_task : TaskSet → Parameters → TaskSet
 with_task set t = record { tasks = set.tasks ++ (t ∷ []); p = set.p; q = set.q }

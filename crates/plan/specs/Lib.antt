@@ -5,3 +5,4 @@ pub mod Laws
 pub mod Refusals
 pub mod Rounding
 pub mod TaskSet
+pub mod Words

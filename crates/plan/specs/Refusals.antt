@@ -13,7 +13,7 @@ use Rattle.plan.specs.declared.fault.RecordError.TheVariants.{Period, Deadline, 
 use Rattle.plan.specs.declared.fault.RecordFault.{RecordFault}
 
 -- a refusal that carries no overload
-abbrev pub plain : ℕ → Layer → Place → Account
+abbrev pub plain : ℕ → Layer → Option Place → Account
 plain number from at = record { number = number; layer = from; place = at; overload = None }
 
 abbrev pub record_number : RecordError → ℕ
@@ -28,8 +28,8 @@ record_account fault = plain (record_number fault.error) layer.Record fault.plac
 
 abbrev pub plan_account : PlanFault → Account
 plan_account (plan.Record fault) = record_account fault
-plan_account plan.Full = plain 17 layer.Plan (place.Task 30)
-plan_account plan.Ratio = plain 5 layer.Plan place.Nowhere
+plan_account plan.Full = plain 17 layer.Plan (Some (place.Task 30))
+plan_account plan.Ratio = plain 5 layer.Plan None
 
 -- a record's fault, carried whole
 abbrev pub in_plan : RecordFault → PlanFault

@@ -62,6 +62,10 @@ pub record Timing : Type 0 where
 abbrev pub timing : Parameters → Timing
 timing t = record { period = t.period; deadline = t.deadline; work = t.work; m = t.m; k = t.k }
 
+-- the timing of these numbers
+abbrev pub timed : ℕ × ℕ × ℕ × ℕ × ℕ → Timing
+timed (period, deadline, work, m, k) = record { period = period; deadline = deadline; work = work; m = m; k = k }
+
 -- equally many tasks, and the same T, D, C, m and k task by task
 abbrev pub Same : TaskSet → TaskSet → Type 0
 Same a b = map timing a.tasks ≡ map timing b.tasks

@@ -1,35 +1,29 @@
 // Whether two plans are the same: equally many tasks, and the same numbers task by task.
 // Neither the speeds nor the ratio count.
-ghost use Rattle.std.specs.Prelude.{◌≡◌, Decides};
-ghost use Rattle.plan.specs.TaskSet.{Same, task_set, parameters, timing};
+ghost use Rattle.std.specs.Prelude.{◌≡◌, ◌↔◌, IsTrue};
+ghost use Rattle.plan.specs.TaskSet.{Same, task_set, parameters, timing, timed};
 
 use super::plan::Plan;
 use super::task::Task;
 
 impl Task {
-    fn same_timing(&self, other: &Task) -> bool
-        ensures { Decides result (timing (parameters self.now) ≡ timing (parameters other.now)) }
+    // What two tasks must share to be the same: everything but the speed.
+    fn timing(&self) -> (u16, u16, u16, u8, u8)
+        ensures { timed result ≡ timing (parameters self.now) }
     {
-        self.period == other.period
-            && self.deadline == other.deadline
-            && self.work == other.work
-            && self.m == other.m
-            && self.k == other.k
+        (self.period, self.deadline, self.work, self.m, self.k)
     }
 }
 
 impl Plan {
     pub fn same(&self, other: &Plan) -> bool
-        ensures { Decides result (Same (task_set self.now) (task_set other.now)) }
+        ensures { IsTrue result ↔ Same (task_set self.now) (task_set other.now) }
     {
-        if self.count != other.count {
-            return false;
-        }
-        for i in 0..self.count {
-            if !self.rows[i].same_timing(&other.rows[i]) {
-                return false;
-            }
-        }
-        true
+        self.len() == other.len()
+            && self
+                .tasks()
+                .iter()
+                .zip(other.tasks())
+                .all(|(a, b)| a.timing() == b.timing())
     }
 }

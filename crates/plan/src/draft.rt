@@ -1,7 +1,7 @@
 // A task's numbers as they are given, before any check.
 
-// In the widths of a book's record. The speed is 0 for high and 1 for low.
-#[derive(Clone, Copy)]
+// In the widths of a book's record. The speed is a number, 0 for high and 1 for low, since nothing is checked yet.
+#[derive(Clone, Copy, PartialEq, Eq, Debug)]
 pub struct Draft {
     pub period: u16,
     pub deadline: u16,

@@ -13,7 +13,6 @@ pub enum Layer {
 // Blocks, records and tasks are numbered from 0.
 #[derive(Clone, Copy, PartialEq, Eq, Debug)]
 pub enum Place {
-    Nowhere,
     Block(usize),
     // the block, and the record in it
     Record(usize, usize),
@@ -28,56 +27,51 @@ pub struct Overload {
     pub work: u32,
 }
 
+// A refusal as it is told: the rules name each by its number.
 #[derive(Clone, Copy, PartialEq, Eq, Debug)]
 pub struct Account {
     pub number: u8,
     pub layer: Layer,
-    pub place: Place,
+    pub place: Option<Place>,
     pub overload: Option<Overload>,
 }
 
-// The first of a task's numbers that is out of bounds.
-#[derive(Clone, Copy, Debug)]
+// The first of a task's numbers that is out of bounds. The value of each variant is the number of its refusal.
+#[derive(Clone, Copy, PartialEq, Eq, Debug)]
 pub enum RecordError {
     // it is 0
-    Period,
+    Period = 7,
     // it is 0, or above the period
-    Deadline,
+    Deadline = 8,
     // it is 0, or above the deadline
-    Work,
+    Work = 9,
     // m is 0, m is above k, or k is above 32
-    Constraint,
+    Constraint = 10,
     // the speed is above 1, or the rest of a book's record is not zero
-    SpeedOrRest,
+    SpeedOrRest = 11,
 }
 
 // A record's fault carries the place that its reader gave it.
-#[derive(Clone, Copy, Debug)]
+#[derive(Clone, Copy, PartialEq, Eq, Debug)]
 pub struct RecordFault {
     pub error: RecordError,
-    pub place: Place,
+    pub place: Option<Place>,
 }
 
-impl RecordFault {
-    pub fn account(&self) -> Account
-        ensures { result ≡ record_account self.now }
-    {
+impl From<RecordFault> for Account {
+    ghost from_gives = { λ fault r. r ≡ record_account fault };
+
+    fn from(fault: RecordFault) -> Account {
         Account {
-            number: match self.error {
-                RecordError::Period => 7,
-                RecordError::Deadline => 8,
-                RecordError::Work => 9,
-                RecordError::Constraint => 10,
-                RecordError::SpeedOrRest => 11,
-            },
+            number: fault.error as u8,
             layer: Layer::Record,
-            place: self.place,
+            place: fault.place,
             overload: None,
         }
     }
 }
 
-#[derive(Clone, Copy, Debug)]
+#[derive(Clone, Copy, PartialEq, Eq, Debug)]
 pub enum PlanFault {
     Record(RecordFault),
     // the plan has 30 tasks already
@@ -94,22 +88,23 @@ impl From<RecordFault> for PlanFault {
     }
 }
 
-impl PlanFault {
-    pub fn account(&self) -> Account
-        ensures { result ≡ plan_account self.now }
-    {
-        match self {
-            PlanFault::Record(fault) => fault.account(),
+impl From<PlanFault> for Account {
+    ghost from_gives = { λ fault r. r ≡ plan_account fault };
+
+    // A variant that carries a value has no number of its own, so the numbers stand here.
+    fn from(fault: PlanFault) -> Account {
+        match fault {
+            PlanFault::Record(fault) => Account::from(fault),
             PlanFault::Full => Account {
                 number: 17,
                 layer: Layer::Plan,
-                place: Place::Task(30),
+                place: Some(Place::Task(30)),
                 overload: None,
             },
             PlanFault::Ratio => Account {
                 number: 5,
                 layer: Layer::Plan,
-                place: Place::Nowhere,
+                place: None,
                 overload: None,
             },
         }

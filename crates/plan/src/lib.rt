@@ -9,3 +9,4 @@ pub mod plan;
 pub mod rows;
 pub mod task;
 pub mod theorems;
+pub mod words;

@@ -1,5 +1,5 @@
-// Making a plan and looking into it: the number of tasks, a task by its number, the ratio.
-ghost use Rattle.std.specs.Prelude.{◌≡◌, ◌≤◌, length};
+// Making a plan and looking into it: the number of tasks, all of them, one by its number, the ratio.
+ghost use Rattle.std.specs.Prelude.{◌≡◌, ◌≤◌, length, map};
 ghost use Rattle.std.specs.Option.{option_map};
 ghost use Rattle.std.specs.List.{slice_get};
 ghost use Rattle.plan.specs.TaskSet.{task_set, empty, parameters, job_work};
@@ -48,15 +48,18 @@ impl Plan {
         self.count
     }
 
+    // The tasks in the order of their numbers.
+    pub fn tasks(&self) -> &[Task]
+        ensures { map parameters result.now ≡ (task_set self.now).tasks }
+    {
+        &self.rows[..self.count]
+    }
+
     // The task with that number.
     pub fn task(&self, number: usize) -> Option<Task>
         ensures { option_map parameters result ≡ slice_get (task_set self.now).tasks number }
     {
-        if number < self.count {
-            Some(self.rows[number])
-        } else {
-            None
-        }
+        self.tasks().get(number).copied()
     }
 
     pub fn ratio(&self) -> Ratio

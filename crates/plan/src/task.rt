@@ -3,12 +3,12 @@ ghost use Rattle.plan.specs.Bounds.{Timed, Constrained, Geared};
 
 #[derive(Clone, Copy, PartialEq, Eq, Debug)]
 pub enum Speed {
-    High,
-    Low,
+    High = 0,
+    Low = 1,
 }
 
 // Times are in ticks. At least `m` of any `k` jobs in a row are mandatory.
-#[derive(Clone, Copy)]
+#[derive(Clone, Copy, PartialEq, Eq, Debug)]
 pub struct Task {
     pub period: u16,
     pub deadline: u16,
@@ -22,7 +22,7 @@ pub struct Task {
 }
 
 // A job takes p/q times as long at low speed as at high speed.
-#[derive(Clone, Copy)]
+#[derive(Clone, Copy, PartialEq, Eq, Debug)]
 pub struct Ratio {
     pub p: u8,
     pub q: u8,

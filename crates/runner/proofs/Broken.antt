@@ -6,7 +6,6 @@ use Rattle.pattern.specs.Even.{even}
 use Rattle.edf.proofs.Verdicts.{plan_serves_iff_fits}
 use Rattle.edf.proofs.Worked.{bounded_tested}
 use Rattle.admission.specs.Judgement.{Right}
-use Rattle.admission.specs.declared.verdict.Verdict.TheVariants.{Accepted}
 use Rattle.runner.specs.Calls.{load}
 use Rattle.runner.specs.Counted.{overfull, PromiseBreakers}
 use Rattle.runner.specs.Logs.{logged}
@@ -14,10 +13,10 @@ use Rattle.runner.specs.Promise.{RightAnswer}
 use Rattle.runner.specs.Rules.{replies_from}
 use Rattle.runner.specs.declared.call.Answer.TheVariants as said
 
-not_accepted : Right overfull even (Accepted 4) → ⊥
+not_accepted : Right overfull even (Ok 4) → ⊥
 not_accepted (H, cycle, right) =
     let same : 4 ≡ H = right.by_its_cycle 4 refl in
-    let served = (right.accepted (omega arith)).0 (ap Accepted same) in
+    let served = (right.accepted (omega arith)).0 (ap Ok same) in
     (plan_serves_iff_fits overfull even (bounded_tested overfull refl)).0 served 0 4 (record { proper = lit< tt; excess = lit< tt })
 
 overload_accepted : RightAnswer even (load (encoded overfull)) (said.Load (Ok 4)) → ⊥

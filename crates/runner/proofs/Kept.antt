@@ -1,5 +1,5 @@
 -- Every call keeps the runner's state in step with its log.
-use Rattle.std.proofs.Common.{◌≡◌, ℕ, ◌<◌, ◌≤◌, true, not, eqb, leb, List, [], ◌∷◌, Some, None, Option, sym, refl, ap, ◌∙◌, subst, ⊎_elim, not-suc-le-zero, arith}
+use Rattle.std.proofs.Common.{◌≡◌, ℕ, ◌<◌, ◌≤◌, true, not, eqb, leb, List, [], ◌∷◌, Some, None, Ok, Err, Option, Result, sym, refl, ap, ◌∙◌, subst, ⊎_elim, not-suc-le-zero, arith}
 use Rattle.std.specs.List.{AllByRecursion}
 use Rattle.std.proofs.lemmas.Bool.{cases_lt, eqb-true, eqb-false, not-false, false≢true}
 use Rattle.plan.specs.Bounded.{Bounded, count}
@@ -17,11 +17,11 @@ use Rattle.edf.specs.System.{is}
 use Rattle.edf.proofs.Verdicts.{plan_serves_iff_fits}
 use Rattle.admission.proofs.Judged.{verdict_is_right}
 use Rattle.admission.specs.Verdicts.{verdict}
-use Rattle.admission.specs.declared.verdict.Verdict.{Verdict}
-use Rattle.admission.specs.declared.verdict.Verdict.TheVariants.{TooLong, Overloaded, Accepted}
+use Rattle.admission.specs.declared.fault.StartFault.{StartFault}
+use Rattle.admission.specs.declared.fault.StartFault.TheVariants.{TooLong}
 use Rattle.runner.specs.Calls.{Action, start, load, tick, done, ask, OfBytes}
 use Rattle.runner.specs.Logs.{Log, plan_of, since, ticks_in, served_in, told_in, logged}
-use Rattle.runner.specs.Rules.{State, made, start_answer, start_state, load_answer, done_fault, closed, reply, next, run_from, replies_from}
+use Rattle.runner.specs.Rules.{State, made, start_state, load_answer, done_fault, closed, reply, next, run_from, replies_from}
 use Rattle.runner.specs.declared.call.Answer.TheVariants as said
 use Rattle.runner.specs.declared.fault.TaskFault.{TaskFault}
 use Rattle.runner.specs.declared.fault.TaskFault.TheVariants.{Absent, NoWork, NotServed}
@@ -52,33 +52,31 @@ is_some : (o : Option ℕ) (i : ℕ) → is o i ≡ true → o ≡ Some i
 is_some None i e = absurd (false≢true e)
 is_some (Some k) i e = ap Some (eqb-true k i e)
 
-long_is_no_accept : (H : ℕ) → Accepted H ≡ TooLong → ⊥
+long_is_no_accept : (H : ℕ) → ◌≡◌ {A = Result ℕ StartFault} (Ok H) (Err TooLong) → ⊥
 long_is_no_accept H e = let z : ◌≡◌ {A = ℕ} 0 1 = cc in omega arith
 
 module _ (policy : Meaning) where
   -- a plan that is accepted with H has the cycle H, and no span of it is overloaded
-  accepted_fits : Lawful policy → (set : TaskSet) → Bounded set → (H : ℕ) → verdict set policy ≡ Accepted H → CycleOf set policy H × Fits set policy
+  accepted_fits : Lawful policy → (set : TaskSet) → Bounded set → (H : ℕ) → verdict set policy ≡ Ok H → CycleOf set policy H × Fits set policy
   accepted_fits lawful set bounded H e =
       let (h, cycle, right) = verdict_is_right set policy bounded lawful in
       let same : H ≡ h = right.by_its_cycle H e in
       let short : h ≤ 1048576 = ⊎_elim (λ above. absurd (long_is_no_accept H (sym e ∙ right.too_long.1 above))) (λ l. l) (cases_lt 1048576 h) in
-      (rw same cycle, (plan_serves_iff_fits set policy bounded).0 ((right.accepted short).0 (e ∙ ap Accepted same)))
+      (rw same cycle, (plan_serves_iff_fits set policy bounded).0 ((right.accepted short).0 (e ∙ ap Ok same)))
 
   module _ (lawful : Lawful policy) (log : Log) (state : State) (kept : Kept policy log state) where
-    start_kept : (plan : Plan) (v : Verdict) → verdict (task_set plan) policy ≡ v →
-        Kept policy (record { call = start plan; answer = said.Start (start_answer v) } ∷ log) (start_state v (task_set plan) state)
-    start_kept plan TooLong e = record { plan = kept.plan; follows = kept.follows }
-    start_kept plan (Overloaded span) e = record { plan = kept.plan; follows = kept.follows }
-    start_kept plan (Accepted H) e =
+    start_kept : (plan : Plan) (v : Result ℕ StartFault) → verdict (task_set plan) policy ≡ v →
+        Kept policy (record { call = start plan; answer = said.Start v } ∷ log) (start_state v (task_set plan) state)
+    start_kept plan (Err fault) e = record { plan = kept.plan; follows = kept.follows }
+    start_kept plan (Ok H) e =
         let (cycle, fits) = accepted_fits lawful (task_set plan) (plan_is_bounded plan) H e in
         record { plan = refl; follows = starts_following policy (task_set plan) H (plan_is_bounded plan) fits cycle }
 
-    load_kept : (book : List ℕ) (o : Option BookFault) (v : Verdict) → (o ≡ None → Bounded (decoded book)) → verdict (decoded book) policy ≡ v →
+    load_kept : (book : List ℕ) (o : Option BookFault) (v : Result ℕ StartFault) → (o ≡ None → Bounded (decoded book)) → verdict (decoded book) policy ≡ v →
         Kept policy (record { call = load book; answer = said.Load (load_answer o v) } ∷ log) (left o (start_state v (decoded book) state) state)
     load_kept book (Some fault) v bounded e = record { plan = kept.plan; follows = kept.follows }
-    load_kept book None TooLong bounded e = record { plan = kept.plan; follows = kept.follows }
-    load_kept book None (Overloaded span) bounded e = record { plan = kept.plan; follows = kept.follows }
-    load_kept book None (Accepted H) bounded e =
+    load_kept book None (Err fault) bounded e = record { plan = kept.plan; follows = kept.follows }
+    load_kept book None (Ok H) bounded e =
         let (cycle, fits) = accepted_fits lawful (decoded book) (bounded refl) H e in
         record { plan = refl; follows = starts_following policy (decoded book) H (bounded refl) fits cycle }
 

@@ -1,17 +1,19 @@
 -- One more call at the end of a list, and the states that lists of calls lead to.
-use Rattle.std.proofs.Common.{◌≡◌, ℕ, ◌+◌, ◌<◌, List, [], ◌∷◌, ◌++◌, length, get_or, take, sym, refl, ap, ◌∙◌, subst}
+use Rattle.std.proofs.Common.{◌≡◌, ℕ, ◌+◌, ◌<◌, ◌≤◌, List, [], ◌∷◌, ◌++◌, length, get_or, take, drop, set, sym, refl, ap, ap₂, ◌∙◌, subst, arith}
 use mathlib.Core.Logic.{∥∥₁_elim, ∥∥₁_map}
 use native.Mathlib.Nat.{ℕ_set}
 use Rattle.std.specs.List.{AllByRecursion}
 use Rattle.std.proofs.ByRecursion.{All-push}
-use Rattle.std.proofs.lemmas.List.{map_push, take_more}
+use Rattle.std.proofs.lemmas.List.{map_push, take_all, take_more, take_more_set, drop-set-lt, drop-drop}
 use Rattle.pattern.specs.Policy.{Meaning, Lawful}
+use Rattle.runner.specs.Boards.{state}
 use Rattle.runner.specs.Calls.{Action, OfBytes, action, actions}
 use Rattle.runner.specs.Promise.{Promise}
 use Rattle.runner.specs.Reached.{CallsReach, ReachedIsOnTime, PromiseGoesOn, RulesGoOn}
 use Rattle.runner.specs.Rules.{State, made, reply, next, run, run_from, replies, replies_from, tick_answer}
 use Rattle.runner.specs.declared.call.Answer.{Answer}
 use Rattle.runner.specs.declared.call.Call.{Call}
+use Rattle.runner.specs.declared.runner.Runner.{Runner}
 use Rattle.runner.proofs.Kept.{making_kept, calls_kept}
 use Rattle.runner.proofs.Promised.{tick_on_time, keeps_its_promise}
 
@@ -28,28 +30,67 @@ module _ (policy : Meaning) where
   replies_push state [] call = refl
   replies_push state (first ∷ calls) call = ap (λ rest. reply policy state first ∷ rest) (replies_push (next policy state first) calls call)
 
-  pub run_none : run policy [] ≡ made
+  run_none : run policy [] ≡ made
   unfolding run_from
   run_none = refl
 
-  pub replies_none : replies policy [] ≡ []
+  replies_none : replies policy [] ≡ []
   unfolding replies_from
   replies_none = refl
 
   -- one more of the code's calls
-  module _ (books : List (List ℕ)) (calls : List Call) (i : ℕ) (d : Call) (here : i < length calls) where
-    one_more : actions books (take (i + 1) calls) ≡ actions books (take i calls) ++ (action books (get_or calls i d) ∷ [])
-    one_more = ap (actions books) (take_more calls i d here) ∙ map_push (action books) (take i calls) (get_or calls i d)
+  module _ (calls : List Call) (i : ℕ) (d : Call) (here : i < length calls) where
+    one_more : actions (take (i + 1) calls) ≡ actions (take i calls) ++ (action (get_or calls i d) ∷ [])
+    one_more = ap actions (take_more calls i d here) ∙ map_push action (take i calls) (get_or calls i d)
 
-    pub run_more : run policy (actions books (take (i + 1) calls)) ≡ next policy (run policy (actions books (take i calls))) (action books (get_or calls i d))
-    run_more = ap (run policy) one_more ∙ run_push made (actions books (take i calls)) (action books (get_or calls i d))
+    pub run_more : run policy (actions (take (i + 1) calls)) ≡ next policy (run policy (actions (take i calls))) (action (get_or calls i d))
+    run_more = ap (run policy) one_more ∙ run_push made (actions (take i calls)) (action (get_or calls i d))
 
-    pub replies_more : replies policy (actions books (take (i + 1) calls))
-        ≡ replies policy (actions books (take i calls)) ++ (reply policy (run policy (actions books (take i calls))) (action books (get_or calls i d)) ∷ [])
-    replies_more = ap (replies policy) one_more ∙ replies_push made (actions books (take i calls)) (action books (get_or calls i d))
+    pub replies_more : replies policy (actions (take (i + 1) calls))
+        ≡ replies policy (actions (take i calls)) ++ (reply policy (run policy (actions (take i calls))) (action (get_or calls i d)) ∷ [])
+    replies_more = ap (replies policy) one_more ∙ replies_push made (actions (take i calls)) (action (get_or calls i d))
 
-    pub bytes_more : AllByRecursion OfBytes (actions books (take i calls)) → OfBytes (action books (get_or calls i d)) → AllByRecursion OfBytes (actions books (take (i + 1) calls))
-    bytes_more before now = subst (AllByRecursion OfBytes) (sym one_more) (All-push OfBytes (actions books (take i calls)) (action books (get_or calls i d)) before now)
+    pub bytes_more : AllByRecursion OfBytes (actions (take i calls)) → OfBytes (action (get_or calls i d)) → AllByRecursion OfBytes (actions (take (i + 1) calls))
+    bytes_more before now = subst (AllByRecursion OfBytes) (sym one_more) (All-push OfBytes (actions (take i calls)) (action (get_or calls i d)) before now)
+
+-- These calls were made by a runner with the given policy, and answered by the first n answers; the answers past them are as before.
+pub record Made {P : Type 0} (meaning : P → Meaning) (given : P) (runner : Runner P) (calls : List Call) (n : ℕ) (before answers : List Answer) : Type 0 where
+  pub policy : runner.policy ≡ given
+  pub left : state runner.board ≡ run (meaning given) (actions calls)
+  pub said : take n answers ≡ replies (meaning given) (actions calls)
+  pub rest : drop n answers ≡ drop n before
+  pub bytes : AllByRecursion OfBytes (actions calls)
+
+-- a new runner has made no calls
+pub none_made : {P : Type 0} (meaning : P → Meaning) (runner : Runner P) (answers : List Answer) → state runner.board ≡ made → Made meaning runner.policy runner [] 0 answers answers
+none_made meaning runner answers new = record {
+  policy = refl;
+  left = new ∙ sym (run_none (meaning runner.policy));
+  said = sym (replies_none (meaning runner.policy));
+  rest = refl;
+  bytes = tt;
+}
+
+-- one call more
+pub made_more : {P : Type 0} (meaning : P → Meaning) (given : P) (runner after : Runner P) (calls : List Call) (i : ℕ) (call : Call) (before answers : List Answer) (answer : Answer)
+    → i < length calls → i < length answers → call ≡ get_or calls i call → Made meaning given runner (take i calls) i before answers
+    → answer ≡ reply (meaning runner.policy) (state runner.board) (action call) → state after.board ≡ next (meaning runner.policy) (state runner.board) (action call)
+    → after.policy ≡ runner.policy → OfBytes (action call)
+    → Made meaning given after (take (i + 1) calls) (i + 1) before (set answers i answer)
+made_more meaning given runner after calls i call before answers answer here room is so_far said left kept bytes =
+    let policy : Meaning = meaning given in
+    let state' : State = run policy (actions (take i calls)) in
+    let named : action call ≡ action (get_or calls i call) = ap action is in
+    record {
+      policy = kept ∙ so_far.policy;
+      left = left ∙ ap₂ (λ p s. next (meaning p) s (action call)) so_far.policy so_far.left ∙ ap (next policy state') named ∙ sym (run_more policy calls i call here);
+      said = take_more_set answers i answer room
+          ∙ ap₂ (λ front x. front ++ (x ∷ [])) so_far.said
+          (said ∙ ap₂ (λ p s. reply (meaning p) s (action call)) so_far.policy so_far.left ∙ ap (reply policy state') named)
+          ∙ sym (replies_more policy calls i call here);
+      rest = drop-set-lt (i + 1) answers i answer (omega arith) ∙ sym (drop-drop 1 i answers) ∙ ap (drop 1) so_far.rest ∙ drop-drop 1 i before;
+      bytes = bytes_more policy calls i call here so_far.bytes (subst OfBytes named bytes);
+    }
 
 pub calls_reach : CallsReach
 calls_reach = record {
@@ -88,3 +129,18 @@ pub kept_by : (policy : Meaning) → Lawful policy → (calls : List Action) →
 kept_by policy lawful calls bytes answers state e f =
     subst (λ s. Promise policy calls answers s) (sym f)
     (subst (λ a. Promise policy calls a (run policy calls)) (sym e) (keeps_its_promise policy lawful calls bytes))
+
+-- all calls that there is room for were made: the promise holds of them
+pub all_made : {P : Type 0} (meaning : P → Meaning) (given : P) (runner : Runner P) (calls : List Call) (i n : ℕ) (before answers : List Answer)
+    → Lawful (meaning given) → i ≡ n → length (take n calls) ≤ i → Made meaning given runner (take i (take n calls)) i before answers
+    → Promise (meaning given) (actions (take n calls)) (take n answers) (state runner.board)
+    × (drop n answers ≡ drop n before)
+    × AllByRecursion OfBytes (actions (take n calls))
+all_made meaning given runner calls i n before answers lawful end through made =
+    let all : Made meaning given runner (take n calls) n before answers =
+    subst (λ k. Made meaning given runner (take n calls) k before answers) end
+    (subst (λ cs. Made meaning given runner cs i before answers) (take_all i (take n calls) through) made) in (
+      kept_by (meaning given) lawful (actions (take n calls)) all.bytes (take n answers) (state runner.board) all.said all.left,
+      all.rest,
+      all.bytes,
+    )

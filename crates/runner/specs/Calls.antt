@@ -1,5 +1,5 @@
 -- What can be done to a runner, and the code's calls as such actions. Assumes nothing.
-use Rattle.std.specs.Prelude.{ℕ, ◌<◌, List, [], map, slice_index_or}
+use Rattle.std.specs.Prelude.{ℕ, ◌<◌, List, map}
 use Rattle.plan.specs.declared.plan.Plan.{Plan}
 use Rattle.book.specs.Bytes.{byte}
 use Rattle.runner.specs.declared.call.Call.{Call}
@@ -21,13 +21,12 @@ OfBytes tick = Unit {0}
 OfBytes (done i) = Unit {0}
 OfBytes (ask i) = Unit {0}
 
--- A load that names no book is one of the empty book.
-abbrev pub action : (books : List (List ℕ)) → Call → Action
-action books (call.Start plan) = start plan
-action books (call.Load place) = load (slice_index_or books place [])
-action books call.Tick = tick
-action books (call.Done number) = done number
-action books (call.Ask number) = ask number
+abbrev pub action : Call → Action
+action (call.Start plan) = start plan
+action (call.Load book) = load book.now
+action call.Tick = tick
+action (call.Done number) = done number
+action (call.Ask number) = ask number
 
-abbrev pub actions : (books : List (List ℕ)) → List Call → List Action
-actions books calls = map (action books) calls
+abbrev pub actions : List Call → List Action
+actions calls = map action calls

@@ -6,6 +6,7 @@ use Rattle.book.specs.Writing.{encoded}
 use Rattle.pattern.specs.Even.{even}
 use Rattle.edf.specs.Counted.{pair}
 use Rattle.edf.specs.Meetings.{high, plain, A, B, idle}
+use Rattle.admission.specs.declared.fault.StartFault.TheVariants.{TooLong}
 use Rattle.runner.specs.Calls.{Action, load, tick, done, ask}
 use Rattle.runner.specs.Logs.{Entry, Log, met}
 use Rattle.runner.specs.Promise.{Promise}
@@ -13,7 +14,6 @@ use Rattle.runner.specs.Rules.{State}
 use Rattle.runner.specs.declared.call.Answer.{Answer}
 use Rattle.runner.specs.declared.call.Answer.TheVariants as said
 use Rattle.runner.specs.declared.fault.LoadFault.TheVariants.{Start}
-use Rattle.runner.specs.declared.fault.StartFault.TheVariants.{TooLong}
 use Rattle.runner.specs.declared.fault.TaskFault.TheVariants.{NotServed}
 
 -- A tick that served a task or nobody, and reported these late.

@@ -9,8 +9,7 @@ use Rattle.pattern.specs.Policy.{Meaning, Lawful}
 use Rattle.edf.specs.Plans.{marked}
 use Rattle.edf.specs.Run.{cleared}
 use Rattle.admission.specs.Judgement.{Right}
-use Rattle.admission.specs.declared.verdict.Verdict.{Verdict}
-use Rattle.admission.specs.declared.verdict.Verdict.TheVariants as verdict
+use Rattle.admission.specs.declared.fault.StartFault.{StartFault}
 use Rattle.runner.specs.Calls.{Action, start, load, tick, done, ask, OfBytes}
 use Rattle.runner.specs.Logs.{Log, logged, plan_of, Passed, met, met_of}
 use Rattle.runner.specs.Rules.{State, reply, next, run, replies}
@@ -18,27 +17,21 @@ use Rattle.runner.specs.declared.call.Answer.{Answer}
 use Rattle.runner.specs.declared.call.Answer.TheVariants as said
 use Rattle.runner.specs.declared.fault.LoadFault.{LoadFault}
 use Rattle.runner.specs.declared.fault.LoadFault.TheVariants.{Book, Start}
-use Rattle.runner.specs.declared.fault.StartFault.{StartFault}
-use Rattle.runner.specs.declared.fault.StartFault.TheVariants.{TooLong, Overloaded}
 
--- The verdict that an answer to a start shows. `Right set policy` says when it is right: too long exactly if the cycle H is above
--- 1,048,576, and else accepted with H exactly if some timetable serves the plan, and overloaded, with the first overload, if none does.
-abbrev pub shown : Result ℕ StartFault → Verdict
-shown (Ok H) = verdict.Accepted H
-shown (Err TooLong) = verdict.TooLong
-shown (Err (Overloaded span)) = verdict.Overloaded span
+-- `Right set policy` says when the answer to a start is right: too long exactly if the cycle H is above 1,048,576, and else
+-- accepted with H exactly if some timetable serves the plan, and overloaded, with the first overload, if none does.
 
 -- The answer to a load of the book is right.
 pub record RightLoad (policy : Meaning) (book : List ℕ) (answer : Result ℕ LoadFault) : Type 0 where
   -- refused for the book exactly if the book fails a check, and for the first such check
   pub unreadable : (fault : BookFault) → (answer ≡ Err (Book fault)) ↔ (read_fault book ≡ Some fault)
   -- else accepted or refused as a start of the plan that it holds, and rightly so
-  pub accepted : (H : ℕ) → answer ≡ Ok H → Right (decoded book) policy (shown (Ok H))
-  pub refused : (fault : StartFault) → answer ≡ Err (Start fault) → Right (decoded book) policy (shown (Err fault))
+  pub accepted : (H : ℕ) → answer ≡ Ok H → Right (decoded book) policy (Ok H)
+  pub refused : (fault : StartFault) → answer ≡ Err (Start fault) → Right (decoded book) policy (Err fault)
 
 -- A start or a load is answered right; of another call nothing is said here.
 abbrev pub RightAnswer : Meaning → Action → Answer → Type 0
-RightAnswer policy (start plan) answer = (r : Result ℕ StartFault) × (answer ≡ said.Start r) × Right (task_set plan) policy (shown r)
+RightAnswer policy (start plan) answer = (r : Result ℕ StartFault) × (answer ≡ said.Start r) × Right (task_set plan) policy r
 RightAnswer policy (load book) answer = (r : Result ℕ LoadFault) × (answer ≡ said.Load r) × RightLoad policy book r
 RightAnswer policy tick answer = Unit {0}
 RightAnswer policy (done i) answer = Unit {0}

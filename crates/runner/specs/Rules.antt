@@ -16,15 +16,12 @@ use Rattle.edf.specs.Tick.{Counters, move_on}
 use Rattle.service.specs.Answers.{answer_of}
 use Rattle.service.specs.declared.ticks.TickAnswer.{TickAnswer}
 use Rattle.admission.specs.Verdicts.{verdict}
-use Rattle.admission.specs.declared.verdict.Verdict.{Verdict}
-use Rattle.admission.specs.declared.verdict.Verdict.TheVariants.{TooLong, Overloaded, Accepted}
+use Rattle.admission.specs.declared.fault.StartFault.{StartFault}
 use Rattle.runner.specs.Calls.{Action, start, load, tick, done, ask}
 use Rattle.runner.specs.Refusals.{by_book, by_start}
 use Rattle.runner.specs.declared.call.Answer.{Answer}
 use Rattle.runner.specs.declared.call.Answer.TheVariants as said
 use Rattle.runner.specs.declared.fault.LoadFault.{LoadFault}
-use Rattle.runner.specs.declared.fault.StartFault.{StartFault}
-use Rattle.runner.specs.declared.fault.StartFault.TheVariants as refused
 use Rattle.runner.specs.declared.fault.TaskFault.{TaskFault}
 use Rattle.runner.specs.declared.fault.TaskFault.TheVariants.{Absent, NoWork, NotServed}
 
@@ -44,21 +41,15 @@ fresh set H = record { set = set; cycle = H; position = 0; jobs = cleared; last 
 abbrev pub made : State
 made = fresh empty 1
 
--- What start answers by the verdict on the plan, and the state that it leaves.
-abbrev pub start_answer : Verdict → Result ℕ StartFault
-start_answer TooLong = Err refused.TooLong
-start_answer (Overloaded span) = Err (refused.Overloaded span)
-start_answer (Accepted H) = Ok H
-
-abbrev pub start_state : Verdict → TaskSet → State → State
-start_state TooLong set state = state
-start_state (Overloaded span) set state = state
-start_state (Accepted H) set state = fresh set H
+-- What a start leaves by the verdict on the plan, which is what it answers.
+abbrev pub start_state : Result ℕ StartFault → TaskSet → State → State
+start_state (Ok H) set state = fresh set H
+start_state (Err fault) set state = state
 
 -- What load answers by the fault of the book, or else by the verdict on the plan that it holds.
-abbrev pub load_answer : Option BookFault → Verdict → Result ℕ LoadFault
+abbrev pub load_answer : Option BookFault → Result ℕ StartFault → Result ℕ LoadFault
 load_answer (Some fault) judged = Err (by_book fault)
-load_answer None judged = result_map_both (λ H. H) by_start (start_answer judged)
+load_answer None judged = result_map_both (λ H. H) by_start judged
 
 -- A done report is refused for the first of these: no such task, no work left, not the task served last.
 abbrev pub done_fault : State → ℕ → Option TaskFault
@@ -110,7 +101,7 @@ module _ (policy : Meaning) where
 
   -- What a runner in that state answers.
   abbrev pub reply : State → Action → Answer
-  reply state (start plan) = said.Start (start_answer (verdict (task_set plan) policy))
+  reply state (start plan) = said.Start (verdict (task_set plan) policy)
   reply state (load book) = said.Load (load_answer (read_fault book) (verdict (decoded book) policy))
   reply state tick = said.Tick (tick_answer state)
   reply state (done i) = said.Done (done_answer state i)

@@ -1,21 +1,23 @@
 // What a runner is asked, and what it answers.
-use super::fault::{LoadFault, StartFault, TaskFault};
+use super::fault::{LoadFault, TaskFault};
+use admission::fault::StartFault;
 use plan::plan::Plan;
 use service::ticks::TickAnswer;
 
 #[derive(Clone, Copy)]
-pub enum Call {
+pub enum Call<'a> {
     Start(Plan),
-    // the place of the book in a list that stands beside the calls
-    Load(usize),
+    // the bytes of the book
+    Load(&'a [u8]),
     Tick,
     // the number of a task
     Done(usize),
     Ask(usize),
 }
 
-// A start and a load answer the cycle, a done report the ticks saved, and ask the work left and the ticks left, if any work is.
-#[derive(Clone, Copy)]
+// A start and a load answer the cycle, a done report the ticks saved, and ask the work left and the ticks left, if any work
+// is: a pair in an `Option`, so the rules have it.
+#[derive(Clone, Copy, PartialEq, Eq, Debug)]
 pub enum Answer {
     Start(Result<u32, StartFault>),
     Load(Result<u32, LoadFault>),

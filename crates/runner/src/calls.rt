@@ -1,5 +1,5 @@
 // Making a runner, and its ticks, done reports and questions.
-ghost use Rattle.std.specs.Prelude.{◌≡◌, false, is_ok};
+ghost use Rattle.std.specs.Prelude.{◌≡◌, OnErr};
 ghost use Rattle.runner.specs.Boards.{state};
 ghost use Rattle.runner.specs.Calls as action;
 ghost use Rattle.runner.specs.Reached.{PromiseGoesOn};
@@ -40,7 +40,7 @@ impl<P: Pattern> Runner<P> {
         ensures answer { result ≡ done_answer (state self.old.board) task }
         ensures after { state self.new.board ≡ done_state (state self.old.board) task }
         ensures policy { self.new.policy ≡ self.old.policy }
-        ensures kept { is_ok result ≡ false → self.new ≡ self.old }
+        ensures kept { OnErr result (self.new ≡ self.old) }
         ensures promise { PromiseGoesOn (P.meaning self.old.policy) (state self.old.board) (action.done task) (said.Done result) (state self.new.board) }
     {
         self.board.done(task)

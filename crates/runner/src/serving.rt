@@ -1,5 +1,5 @@
 // The calls on a board: a tick, a done report and a question.
-ghost use Rattle.std.specs.Prelude.{◌≡◌, ◌<◌, false, is_ok};
+ghost use Rattle.std.specs.Prelude.{◌≡◌, ◌<◌, OnErr};
 ghost use Rattle.plan.specs.TaskSet.{task_set};
 ghost use Rattle.runner.specs.Boards.{state, pending_answer};
 ghost use Rattle.runner.specs.Rules.{fresh, tick_answer, tick_state, done_answer, done_state, ask_answer};
@@ -10,6 +10,7 @@ use pattern::policy::Pattern;
 use plan::plan::Plan;
 use service::backlog::{Backlog, Pending};
 use service::ticks::TickAnswer;
+use service::workload::Workload;
 
 impl Board {
     // A plan that was just started, with its cycle.
@@ -31,7 +32,11 @@ impl Board {
         ensures answer { result ≡ tick_answer (P.meaning policy.now) (state self.old) }
         ensures after { state self.new ≡ tick_state (P.meaning policy.now) (state self.old) }
     {
-        let answer = self.backlog.tick(&self.plan, policy, self.position);
+        let load = Workload {
+            plan: &self.plan,
+            policy,
+        };
+        let answer = self.backlog.tick(&load, self.position);
         self.last = answer.served;
         let next = self.position + 1;
         self.position = if next == self.cycle { 0 } else { next };
@@ -42,17 +47,15 @@ impl Board {
     fn pending(&self, task: usize) -> Result<Pending, TaskFault>
         ensures { result ≡ pending_answer self.now task }
     {
-        if task >= self.plan.len() {
-            return Err(TaskFault::Absent(task));
-        }
-        Ok(self.backlog.rows[task])
+        let rows = &self.backlog.rows[..self.plan.len()];
+        rows.get(task).copied().ok_or(TaskFault::Absent(task))
     }
 
     // The task served last has finished its job early: closes the job, and answers the ticks saved.
     pub(crate) fn done(&mut self, task: usize) -> Result<u32, TaskFault>
         ensures answer { result ≡ done_answer (state self.old) task }
         ensures after { state self.new ≡ done_state (state self.old) task }
-        ensures kept { is_ok result ≡ false → self.new ≡ self.old }
+        ensures kept { OnErr result (self.new ≡ self.old) }
     {
         let saved = self.pending(task)?.work;
         if saved == 0 {
@@ -73,6 +76,6 @@ impl Board {
         ensures { result ≡ ask_answer (state self.now) task }
     {
         let Pending { work, ticks } = self.pending(task)?;
-        Ok(if work > 0 { Some((work, ticks)) } else { None })
+        Ok((work > 0).then_some((work, ticks)))
     }
 }

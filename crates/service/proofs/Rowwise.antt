@@ -1,12 +1,11 @@
--- A loop that goes over the rows and gives each what a step gives it.
-use Rattle.std.proofs.Common.{◌≡◌, ℕ, ◌+◌, ◌<◌, ◌≤◌, Bool, true, false, cond, ltb, ◌≢◌, List, length, get_or, set, sym, refl, ap, ◌∙◌, ⊎_elim, arith, get_or-set_other, get_or-set_same}
-use Rattle.std.proofs.lemmas.Bool.{cases_lt, cases_eq, lt-ltb, le-ltb, cond-true, cond-false}
-use Rattle.plan.proofs.Bounding.{plan_is_bounded}
+-- A loop that goes over the rows of a plan's tasks and gives each what a step gives it.
+use Rattle.std.proofs.Common.{◌≡◌, ℕ, ◌<◌, ◌≤◌, Bool, true, false, cond, ltb, List, ◌++◌, length, get_or, take, subst, refl, ap, ◌∙◌, arith}
+use Rattle.std.proofs.lemmas.List.{get_or_append_left, get_or-take, length-take-le}
+use Rattle.std.proofs.lemmas.Bool.{ltb-true}
 use Rattle.plan.specs.Bounded.{count}
-use Rattle.plan.specs.TaskSet.{TaskSet, task_set}
-use Rattle.plan.specs.declared.plan.Plan.{Plan}
+use Rattle.plan.specs.TaskSet.{TaskSet}
 use Rattle.edf.specs.Tick.{Counters}
-use Rattle.service.specs.Rows.{idle, view}
+use Rattle.service.specs.Rows.{idle, row, view}
 use Rattle.service.specs.declared.backlog.Backlog.{Backlog}
 use Rattle.service.specs.declared.backlog.Pending.{Pending}
 
@@ -14,51 +13,42 @@ use Rattle.service.specs.declared.backlog.Pending.{Pending}
 abbrev pub Stepped : (ℕ → Pending → Pending) → ℕ → List Pending → List Pending → Type 0
 Stepped f n old new = (k : ℕ) → get_or new k idle ≡ cond (ltb k n) (f k (get_or old k idle)) (get_or old k idle)
 
-module _ (f : ℕ → Pending → Pending) where
-  pub stepped_none : (rows : List Pending) → Stepped f 0 rows rows
-  stepped_none rows k = sym (cond-false (ltb k 0) (f k (get_or rows k idle)) (get_or rows k idle) (le-ltb k 0 (omega arith)))
+-- The step has gone over the rows of all the plan's tasks; the rest are spare rows.
+pub record SteppedAll (f : ℕ → Pending → Pending) (tasks : TaskSet) (old : Backlog) (new rest : List Pending) : Type 0 where
+  pub long : length new ≡ count tasks
+  pub rows : Stepped f (count tasks) (take (count tasks) old.rows) new
 
-  -- the row that comes next, as it was before the loop
-  pub stepped_next : (i : ℕ) (old new : List Pending) → Stepped f i old new → get_or new i idle ≡ get_or old i idle
-  stepped_next i old new so_far = so_far i ∙ cond-false (ltb i i) (f i (get_or old i idle)) (get_or old i idle) (le-ltb i i (omega arith))
+-- a loop over the first n rows, as many as there are tasks, has come to their end
+pub all_stepped : (f : ℕ → Pending → Pending) (tasks : TaskSet) (old : Backlog) (new rest : List Pending) (n i : ℕ) → n ≡ count tasks → n ≤ length old.rows →
+    length new ≡ length (take n old.rows) → i ≡ length (take n old.rows) → Stepped f i (take n old.rows) new → SteppedAll f tasks old new rest
+all_stepped f tasks old new rest n i all few long end so_far =
+    let taken : length (take n old.rows) ≡ n = length-take-le n old.rows few in
+    record {
+      long = long ∙ taken ∙ all;
+      rows = subst (λ m. Stepped f m (take m old.rows) new) all (subst (λ m. Stepped f m (take n old.rows) new) (end ∙ taken) so_far);
+    }
 
-  below_same : (i k : ℕ) (a b : Pending) → k ≢ i → cond (ltb k i) a b ≡ cond (ltb k (i + 1)) a b
-  below_same i k a b ne =
-      ⊎_elim
-      (λ l. cond-true (ltb k i) a b (lt-ltb k i l) ∙ sym (cond-true (ltb k (i + 1)) a b (lt-ltb k (i + 1) (omega arith))))
-      (λ g. cond-false (ltb k i) a b (le-ltb k i g) ∙ sym (cond-false (ltb k (i + 1)) a b (le-ltb k (i + 1) (omega arith))))
-      (cases_lt k i)
+-- the counters of the rows that the step has gone over
+pub stepped_view : (f : ℕ → Pending → Pending) (tasks : TaskSet) (old : Backlog) (new rest : List Pending) → SteppedAll f tasks old new rest → (k : ℕ) →
+    ((view tasks (record { rows = new ++ rest })).w k ≡ cond (ltb k (count tasks)) (f k (row old k)).work 0)
+    × ((view tasks (record { rows = new ++ rest })).d k ≡ cond (ltb k (count tasks)) (f k (row old k)).ticks 0)
+stepped_view f tasks old new rest all k = at (ltb k (count tasks)) refl
+  where
+    stepped : k < count tasks → ltb k (count tasks) ≡ true → get_or (new ++ rest) k idle ≡ f k (row old k)
+    stepped below t =
+        get_or_append_left new rest idle k (omega (arith, all.long))
+        ∙ all.rows k
+        ∙ ap (λ b. cond b (f k (get_or (take (count tasks) old.rows) k idle)) (get_or (take (count tasks) old.rows) k idle)) t
+        ∙ ap (f k) (get_or-take (count tasks) old.rows k idle below)
 
-  pub stepped_more : (i : ℕ) (old new : List Pending) (v : Pending) → i < length new → Stepped f i old new →
-      v ≡ f i (get_or old i idle) → Stepped f (i + 1) old (set new i v)
-  stepped_more i old new v h so_far here k =
-      ⊎_elim
-      (λ e. rw e (get_or-set_same new i v idle h ∙ here ∙ sym (cond-true (ltb i (i + 1)) (f i (get_or old i idle)) (get_or old i idle) (lt-ltb i (i + 1) (omega arith)))))
-      (λ ne. get_or-set_other new i k v idle ne ∙ so_far k ∙ below_same i k (f k (get_or old k idle)) (get_or old k idle) ne)
-      (cases_eq k i)
+    at : (b : Bool) → ltb k (count tasks) ≡ b →
+        (cond b (get_or (new ++ rest) k idle).work 0 ≡ cond b (f k (row old k)).work 0)
+        × (cond b (get_or (new ++ rest) k idle).ticks 0 ≡ cond b (f k (row old k)).ticks 0)
+    at true t =
+        let e = stepped (ltb-true k (count tasks) t) t in
+        (ap (λ (p : Pending). p.work) e, ap (λ (p : Pending). p.ticks) e)
+    at false t = (refl, refl)
 
-  -- a row that the step leaves as it is
-  pub stepped_over : (i : ℕ) (old new : List Pending) → Stepped f i old new → f i (get_or old i idle) ≡ get_or old i idle → Stepped f (i + 1) old new
-  stepped_over i old new so_far same k =
-      ⊎_elim
-      (λ e. rw e (stepped_next i old new so_far ∙ sym same ∙ sym (cond-true (ltb i (i + 1)) (f i (get_or old i idle)) (get_or old i idle) (lt-ltb i (i + 1) (omega arith)))))
-      (λ ne. so_far k ∙ below_same i k (f k (get_or old k idle)) (get_or old k idle) ne)
-      (cases_eq k i)
-
-  -- the counters of the rows that the step has gone over
-  pub stepped_view : (tasks : TaskSet) (old new : Backlog) → Stepped f (count tasks) old.rows new.rows → (k : ℕ) →
-      ((view tasks new).w k ≡ cond (ltb k (count tasks)) (f k (get_or old.rows k idle)).work 0)
-      × ((view tasks new).d k ≡ cond (ltb k (count tasks)) (f k (get_or old.rows k idle)).ticks 0)
-  stepped_view tasks old new all k =
-      at (ltb k (count tasks)) (get_or new.rows k idle) (f k (get_or old.rows k idle)) (get_or old.rows k idle) (all k)
-    where
-      at : (b : Bool) (r p q : Pending) → r ≡ cond b p q → (cond b r.work 0 ≡ cond b p.work 0) × (cond b r.ticks 0 ≡ cond b p.ticks 0)
-      at true r p q e = (ap (λ (x : Pending). x.work) e, ap (λ (x : Pending). x.ticks) e)
-      at false r p q e = (refl, refl)
-
+-- counters that are the same number by number
 pub same_counters : (a b : Counters) → ((k : ℕ) → a.w k ≡ b.w k) → ((k : ℕ) → a.d k ≡ b.d k) → a ≡ b
 same_counters a b ws ds = λ t. record { w = λ k. ws k t; d = λ k. ds k t }
-
--- a plan has at most as many tasks as a backlog has rows
-pub tasks_fit : (plan : Plan) → count (task_set plan) ≤ 30
-tasks_fit plan = (plan_is_bounded plan).few

@@ -1,9 +1,9 @@
 -- The rows of a backlog as the counters of the theory, and the job that a task releases as a row.
 -- Assumes nothing.
-use Rattle.std.specs.Prelude.{ℕ, Bool, cond, ◌&&◌, Some, None, Option, ◌==◌, nat_lt, slice_index_or}
+use Rattle.std.specs.Prelude.{◌≡◌, ℕ, ◌/◌, ◌%◌, Bool, cond, ◌&&◌, drop, Some, None, Option, ◌==◌, nat_lt, slice_index_or}
 use Rattle.plan.specs.Bounded.{count}
-use Rattle.plan.specs.TaskSet.{TaskSet}
-use Rattle.pattern.specs.Policy.{Meaning}
+use Rattle.plan.specs.TaskSet.{Parameters, TaskSet, job_work}
+use Rattle.pattern.specs.Policy.{Meaning, mandatory}
 use Rattle.edf.specs.Tick.{Counters}
 use Rattle.edf.specs.Plans.{D, W, released}
 use Rattle.service.specs.declared.backlog.Backlog.{Backlog}
@@ -30,7 +30,12 @@ overdue pending = nat_lt 0 pending.work && pending.ticks == 0
 abbrev pub released_job : TaskSet → Meaning → (i u : ℕ) → Option Pending
 released_job set policy i u = cond (released set policy i u) (Some (record { work = W set i; ticks = D set i })) None
 
--- Which of two tasks goes first, the best so far or task i: task i if it has work left, and fewer ticks left.
-abbrev pub preferred : Backlog → Option ℕ → ℕ → Option ℕ
-preferred backlog None i = cond (nat_lt 0 (row backlog i).work) (Some i) None
-preferred backlog (Some b) i = cond (nat_lt 0 (row backlog i).work && nat_lt (row backlog i).ticks (row backlog b).ticks) (Some i) (Some b)
+-- The same for task i with these parameters, at the ratio of the task set: T divides u, and job u / T is mandatory.
+abbrev pub job_of : TaskSet → Meaning → (i : ℕ) → Parameters → (u : ℕ) → Option Pending
+job_of set policy i t u =
+    cond (u % t.period == 0 && mandatory policy i t.m t.k (u / t.period))
+    (Some (record { work = job_work set.p set.q t; ticks = t.deadline })) None
+
+-- The rows past the plan's tasks are as they were.
+abbrev pub SpareKept : TaskSet → (old new : Backlog) → Type 0
+SpareKept set old new = drop (count set) new.rows ≡ drop (count set) old.rows

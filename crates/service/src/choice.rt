@@ -1,10 +1,10 @@
 // Step 3: the task whose deadline comes first is chosen, and served.
-ghost use Rattle.std.specs.Prelude.{◌≡◌, ◌<◌, ◌&&◌, IfSome, Some, ◌==◌};
+ghost use Rattle.std.specs.Prelude.{◌≡◌, ◌<◌, IfSome};
 ghost use Rattle.plan.specs.Bounded.{count};
 ghost use Rattle.plan.specs.TaskSet.{TaskSet, task_set};
 ghost use Rattle.edf.specs.Earliest.{Earliest};
-ghost use Rattle.edf.specs.Tick.{choose, serve};
-ghost use Rattle.service.specs.Rows.{row, view, preferred};
+ghost use Rattle.edf.specs.Tick.{choose, serve, ended};
+ghost use Rattle.service.specs.Rows.{view, SpareKept};
 
 use super::backlog::Backlog;
 use plan::plan::Plan;
@@ -15,37 +15,24 @@ impl Backlog {
         ensures answer { result ≡ choose (count (task_set plan.now)) (view (task_set plan.now) self.now) }
         ensures earliest { Earliest (count (task_set plan.now)) (view (task_set plan.now) self.now) result }
     {
-        let mut best = None;
-        for i in 0..plan.len() {
-            best = self.better(best, i);
-        }
-        best
+        self.rows[..plan.len()]
+            .iter()
+            .enumerate()
+            .filter(|(_, row)| row.work > 0)
+            .min_by_key(|(_, row)| row.ticks)
+            .map(|(number, _)| number)
     }
 
-    // Whom to prefer: the best so far, or task i, if it has work left and fewer ticks left.
-    fn better(&self, best: Option<usize>, i: usize) -> Option<usize>
-        requires row { i < 30 }
-        requires rival { IfSome best (λ b. b < 30) }
-        ensures { result ≡ preferred self.now best i }
+    // The chosen task, if there is one, gets one tick of its work; whether that used it up.
+    pub(crate) fn serve(&mut self, served: Option<usize>) -> bool
+        requires row { IfSome served (λ number. number < 30) }
+        ensures finished { (tasks : TaskSet) → IfSome served (λ number. number < count tasks) → result ≡ ended served (view tasks self.new) }
+        ensures after { (tasks : TaskSet) → view tasks self.new ≡ serve served (view tasks self.old) }
+        ensures spare { (tasks : TaskSet) → IfSome served (λ number. number < count tasks) → SpareKept tasks self.old self.new }
     {
-        let rival = self.rows[i];
-        let sooner = match best {
-            Some(b) => rival.ticks < self.rows[b].ticks,
-            None => true,
+        let Some(number) = served else {
+            return false;
         };
-        if rival.work > 0 && sooner {
-            Some(i)
-        } else {
-            best
-        }
-    }
-
-    // The task gets one tick of its work; whether that used it up.
-    pub(crate) fn serve(&mut self, number: usize) -> bool
-        requires row { number < 30 }
-        ensures finished { result ≡ ((row self.new number).work == 0) }
-        ensures after { (tasks : TaskSet) → view tasks self.new ≡ serve (Some number) (view tasks self.old) }
-    {
         let left = self.rows[number].work.saturating_sub(1);
         self.rows[number].work = left;
         left == 0

@@ -3,7 +3,7 @@
 
 pub mod backlog;
 pub mod choice;
-pub mod releases;
 pub mod serving;
 pub mod steps;
 pub mod ticks;
+pub mod workload;

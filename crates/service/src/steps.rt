@@ -6,10 +6,10 @@ ghost use Rattle.edf.specs.Plans.{system};
 ghost use Rattle.edf.specs.Run.{cleared};
 ghost use Rattle.edf.specs.Tick.{late, drop_late, release, age};
 ghost use Rattle.service.specs.Answers.{mask};
-ghost use Rattle.service.specs.Rows.{view, overdue};
+ghost use Rattle.service.specs.Rows.{view, overdue, SpareKept};
 
 use super::backlog::{Backlog, Pending};
-use super::releases::released_job;
+use super::workload::Workload;
 use pattern::policy::Pattern;
 use plan::plan::Plan;
 
@@ -18,8 +18,8 @@ impl Pending {
     pub const IDLE: Pending = Pending { work: 0, ticks: 0 };
 
     // Work is left, and no tick to do it in.
-    fn is_late(self) -> bool
-        ensures { result ≡ overdue self }
+    fn is_late(&self) -> bool
+        ensures { result ≡ overdue self.now }
     {
         self.work > 0 && self.ticks == 0
     }
@@ -39,35 +39,42 @@ impl Backlog {
     pub fn drop_late(&mut self, plan: &Plan) -> u32
         ensures missed { result ≡ mask (count (task_set plan.now)) (late (view (task_set plan.now) self.old)) }
         ensures after { view (task_set plan.now) self.new ≡ drop_late (view (task_set plan.now) self.old) }
+        ensures spare { SpareKept (task_set plan.now) self.old self.new }
     {
         let mut missed = 0;
-        for i in 0..plan.len() {
-            if self.rows[i].is_late() {
-                self.rows[i].work = 0;
-                missed += 1 << i;
+        for (number, row) in self.rows[..plan.len()].iter_mut().enumerate() {
+            if row.is_late() {
+                row.work = 0;
+                missed += 1 << number;
             }
         }
         missed
     }
 
-    // Step 2: opens the jobs that are released at the position, with all their work and ticks.
-    pub fn release<P: Pattern>(&mut self, plan: &Plan, policy: &P, position: u32)
-        ensures { view (task_set plan.now) self.new ≡ release (system (task_set plan.now) (P.meaning policy.now)) position (view (task_set plan.now) self.old) }
+    // Step 2: opens the jobs that are released at the position, with all their work and ticks. Goes over the rows alone:
+    // after a loop over a zip of them with the tasks a proof knows nothing of the rows.
+    pub fn release<P: Pattern>(&mut self, load: &Workload<P>, position: u32)
+        ensures after { view (task_set load.now.plan.now) self.new ≡ release (system (task_set load.now.plan.now) (P.meaning load.now.policy.now)) position (view (task_set load.now.plan.now) self.old) }
+        ensures spare { SpareKept (task_set load.now.plan.now) self.old self.new }
     {
-        for i in 0..plan.len() {
-            if let Some(job) = released_job(plan, policy, i, position) {
-                self.rows[i] = job;
+        for (number, row) in self.rows[..load.plan.len()].iter_mut().enumerate() {
+            if let Some(job) = load.released_job(number, position) {
+                *row = job;
             }
         }
     }
 
     // Step 4: a task with work left loses one of its ticks left, and every other has none.
     pub fn age(&mut self, plan: &Plan)
-        ensures { view (task_set plan.now) self.new ≡ age (view (task_set plan.now) self.old) }
+        ensures after { view (task_set plan.now) self.new ≡ age (view (task_set plan.now) self.old) }
+        ensures spare { SpareKept (task_set plan.now) self.old self.new }
     {
-        for i in 0..plan.len() {
-            let Pending { work, ticks } = self.rows[i];
-            self.rows[i].ticks = if work > 0 { ticks.saturating_sub(1) } else { 0 };
+        for row in &mut self.rows[..plan.len()] {
+            row.ticks = if row.work > 0 {
+                row.ticks.saturating_sub(1)
+            } else {
+                0
+            };
         }
     }
 }

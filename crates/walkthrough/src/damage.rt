@@ -1,11 +1,12 @@
 // Copies of the book that were damaged on their way, and what the terminal says to each.
 use super::words::tell;
+use book::block::mend;
 use book::fault::BookFault;
 use book::reader::read;
-use plan::fault::Account;
 use plan::plan::Plan;
 use std::io;
 
+// What happened to the copy, as the tables below name it: data, and no steps to run.
 #[derive(Clone, Copy)]
 enum Damage {
     // only so many bytes arrive
@@ -95,11 +96,7 @@ fn tell_cases(
     held: &mut Plan,
 ) -> io::Result<()> {
     for case in cases {
-        tell(
-            rt,
-            case.story,
-            refusal(read_damaged(book, case.damage, held)),
-        )?;
+        tell(rt, case.story, read_damaged(book, case.damage, held))?;
     }
     Ok(())
 }
@@ -122,24 +119,5 @@ fn read_damaged(book: &[u8; 512], damage: Damage, plan: &mut Plan) -> Result<(),
             mend(&mut copy);
             read(&copy, plan)
         }
-    }
-}
-
-// Makes the words of a block add up to zero again, by the word at byte 28.
-fn mend(block: &mut [u8; 512]) {
-    block[28..32].copy_from_slice(&[0; 4]);
-    let mut sum: u32 = 0;
-    for word in block.chunks_exact(4) {
-        if let [b0, b1, b2, b3] = word {
-            sum = sum.wrapping_add(u32::from_le_bytes([*b0, *b1, *b2, *b3]));
-        }
-    }
-    block[28..32].copy_from_slice(&sum.wrapping_neg().to_le_bytes());
-}
-
-fn refusal(answer: Result<(), BookFault>) -> Option<Account> {
-    match answer {
-        Ok(()) => None,
-        Err(fault) => Some(fault.account()),
     }
 }

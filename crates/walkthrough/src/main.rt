@@ -25,6 +25,6 @@ fn day(rt: &HostRuntime) -> Result<(), Trouble> {
     terminal::tell_plan(rt, &held, &sent)?;
     terminal::tell_records(rt, Cursor::open(&book)?)?;
     damage::tell_copies(rt, &book, &held)?;
-    firmware::tell_slips(rt, &held)?;
+    firmware::tell_slips(rt, held)?;
     Ok(())
 }

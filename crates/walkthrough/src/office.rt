@@ -15,10 +15,6 @@ pub struct Part {
     pub draft: Draft,
 }
 
-const HIGH: u8 = 0;
-
-const LOW: u8 = 1;
-
 // In the order of their task numbers.
 pub const PARTS: [Part; 5] = [
     Part {
@@ -29,7 +25,7 @@ pub const PARTS: [Part; 5] = [
             work: 3,
             m: 1,
             k: 1,
-            speed: HIGH,
+            speed: Speed::High as u8,
         },
     },
     Part {
@@ -40,7 +36,7 @@ pub const PARTS: [Part; 5] = [
             work: 2,
             m: 1,
             k: 1,
-            speed: HIGH,
+            speed: Speed::High as u8,
         },
     },
     Part {
@@ -51,7 +47,7 @@ pub const PARTS: [Part; 5] = [
             work: 8,
             m: 2,
             k: 3,
-            speed: HIGH,
+            speed: Speed::High as u8,
         },
     },
     Part {
@@ -62,7 +58,7 @@ pub const PARTS: [Part; 5] = [
             work: 9,
             m: 3,
             k: 5,
-            speed: LOW,
+            speed: Speed::Low as u8,
         },
     },
     Part {
@@ -73,7 +69,7 @@ pub const PARTS: [Part; 5] = [
             work: 10,
             m: 1,
             k: 4,
-            speed: HIGH,
+            speed: Speed::High as u8,
         },
     },
 ];
@@ -102,11 +98,9 @@ pub fn book_of(plan: &Plan) -> Result<[u8; 512], BookFault> {
 
 pub fn tell_plan(rt: &HostRuntime, plan: &Plan) -> io::Result<()> {
     println!(rt; "The office makes the plan of the day.")?;
-    for (number, part) in PARTS.iter().enumerate() {
-        if let Some(task) = plan.task(number) {
-            tell_task(rt, number, part.name, &task)?;
-            tell_work(rt, &task, plan.ratio())?;
-        }
+    for (number, (part, task)) in PARTS.iter().zip(plan.tasks()).enumerate() {
+        tell_task(rt, number, part.name, task)?;
+        tell_work(rt, task, plan.ratio())?;
     }
     Ok(())
 }

@@ -34,10 +34,8 @@ pub fn tell_records(rt: &HostRuntime, mut cursor: Cursor) -> io::Result<()> {
     println!(rt;
         "two bytes each with the low one first, then m, k and the speed, 0 for high and 1 for low."
     )?;
-    for part in PARTS {
-        if let Some(record) = cursor.next() {
-            tell_record(rt, part.name, &record)?;
-        }
+    for (part, record) in PARTS.iter().zip(cursor.by_ref()) {
+        tell_record(rt, part.name, record)?;
     }
     let rest = if cursor.next().is_some() {
         "more"
@@ -47,12 +45,12 @@ pub fn tell_records(rt: &HostRuntime, mut cursor: Cursor) -> io::Result<()> {
     println!(rt; "After the last record the cursor hands out {rest}.")
 }
 
-fn tell_record(rt: &HostRuntime, name: &str, record: &Record) -> io::Result<()> {
+fn tell_record(rt: &HostRuntime, name: &str, record: Record) -> io::Result<()> {
     let Record {
         bytes,
         block,
         number,
-    } = *record;
-    let front = bytes.get(0..9).unwrap_or(bytes);
+    } = record;
+    let front = &bytes[..9];
     println!(rt; "  Block {block}, record {number}, {name}: {front:?}")
 }

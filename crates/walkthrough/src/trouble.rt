@@ -1,28 +1,15 @@
 // What ends the day early: an output that fails, or a refusal where none is due.
 use book::fault::BookFault;
-use plan::fault::{Account, PlanFault};
+use plan::fault::PlanFault;
 use std::io;
+use thiserror::Error;
 
-#[derive(Debug, Drop)]
+#[derive(Debug, Drop, Error)]
 pub enum Trouble {
-    Output(io::Error),
-    Refused(Account),
-}
-
-impl From<io::Error> for Trouble {
-    fn from(error: io::Error) -> Trouble {
-        Trouble::Output(error)
-    }
-}
-
-impl From<PlanFault> for Trouble {
-    fn from(fault: PlanFault) -> Trouble {
-        Trouble::Refused(fault.account())
-    }
-}
-
-impl From<BookFault> for Trouble {
-    fn from(fault: BookFault) -> Trouble {
-        Trouble::Refused(fault.account())
-    }
+    #[error("the output fails: {0}")]
+    Output(#[from] io::Error),
+    #[error("the plan is refused: {0}")]
+    Plan(#[from] PlanFault),
+    #[error("the book is refused: {0}")]
+    Book(#[from] BookFault),
 }

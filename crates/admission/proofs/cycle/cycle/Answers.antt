@@ -1,28 +1,45 @@
-use Rattle.std.proofs.Common.{◌≡◌, ◌+◌, sym, arith}
-use Rattle.plan.specs.TaskSet.{task_set}
+use Rattle.std.proofs.Common.{◌∙◌, sym, arith}
+use Rattle.pattern.specs.Policy.{Meaning}
+use Rattle.plan.specs.TaskSet.{TaskSet, task_set}
 use Rattle.edf.specs.Admission.{repetition}
-use Rattle.edf.specs.Cycle.{cycle}
-use Rattle.admission.proofs.Cycles.{cycle_begins, cycle_goes_on, cycle_positive, repetition_small, above_decides}
+use Rattle.admission.proofs.Cycles.{cycle_begins, cycle_positive, cycle_more, none_above, whole_cycle}
+use Rattle.admission.proofs.Numbered.{all_listed, repetition_at}
 use Rattle.admission.proofs.cycle.cycle.Goals as goal
 
-pub loop-i-init : goal.loop-i-init
-loop-i-init g c = (sym (cycle_begins (repetition (task_set c.args.plan.now) (g.P.Pattern.meaning c.args.policy.now))), omega arith)
+pub loop-number-init : goal.loop-number-init
+loop-number-init g c = (sym (cycle_begins (repetition (task_set c.args.load.now.plan.now) (g.P.Pattern.meaning c.args.load.now.policy.now))), omega arith)
 
-pub lcm-so_far-requires : goal.lcm-so_far-requires
-lcm-so_far-requires g c =
-    let lawful = g.met.P.Pattern.lawful c.args.policy.now in (
-      omega (arith, cycle_positive c.args.plan.now lawful c.loop-i.i (omega arith), c.loop-i.invariant.0),
-      (c.loop-i.invariant.1, omega (arith, repetition_small c.args.plan.now lawful c.loop-i.i (omega arith))),
-    )
+pub lcm-requires : goal.lcm-requires
+lcm-requires g c =
+    let listed = all_listed (task_set c.args.load.now.plan.now) c.tasks-task-items.result.now c.tasks-task-items.ensures in
+    omega (arith, cycle_positive c.args.load.now.plan.now (g.met.P.Pattern.lawful c.args.load.now.policy.now) c.loop-number.number (omega arith), c.loop-number.invariant.0)
 
-pub returns-then-so_far-gt-LIMIT : goal.returns-then-so_far-gt-LIMIT
-returns-then-so_far-gt-LIMIT g c =
-    let f = repetition (task_set c.args.plan.now) (g.P.Pattern.meaning c.args.policy.now) in
-    let next = cycle_goes_on c.loop-i.i f in
-    let so_far : c.lcm-so_far.result ≡ cycle (c.loop-i.i + 1) f = cc in
-    above_decides c.args.plan.now (g.met.P.Pattern.lawful c.args.policy.now) (c.loop-i.i + 1) (omega arith) (omega arith)
+pub returns-in_err-so_far : goal.returns-in_err-so_far
+returns-in_err-so_far g c =
+    let set : TaskSet = task_set c.args.load.now.plan.now in
+    let policy : Meaning = g.P.Pattern.meaning c.args.load.now.policy.now in
+    let listed = all_listed set c.tasks-task-items.result.now c.tasks-task-items.ensures in
+    let repeats =
+    repetition_at set policy c.tasks-task-items.result.now c.loop-number.number c.task-item.result c.tasks-task-items.ensures c.loop-number-test.true c.task-item.is
+    c.repetition.result c.repetition.ensures in
+    c.from_residual.ensures ∙
+    none_above c.args.load.now.plan.now (g.met.P.Pattern.lawful c.args.load.now.policy.now) c.loop-number.number c.loop-number.so_far c.repetition.result (omega arith)
+    c.loop-number.invariant.0 repeats c.in_err-so_far.ensures
 
-pub loop-i-preserved : goal.loop-i-preserved
-loop-i-preserved g c =
-    let next = cycle_goes_on c.loop-i.i (repetition (task_set c.args.plan.now) (g.P.Pattern.meaning c.args.policy.now)) in
-    (cc, c.if-so_far-gt-LIMIT.false)
+pub loop-number-preserved : goal.loop-number-preserved
+loop-number-preserved g c =
+    let set : TaskSet = task_set c.args.load.now.plan.now in
+    let policy : Meaning = g.P.Pattern.meaning c.args.load.now.policy.now in
+    let listed = all_listed set c.tasks-task-items.result.now c.tasks-task-items.ensures in
+    let repeats =
+    repetition_at set policy c.tasks-task-items.result.now c.loop-number.number c.task-item.result c.tasks-task-items.ensures c.loop-number-test.true c.task-item.is
+    c.repetition.result c.repetition.ensures in
+    cycle_more c.args.load.now.plan.now (g.met.P.Pattern.lawful c.args.load.now.policy.now) c.loop-number.number c.loop-number.so_far c.repetition.result (omega arith)
+    c.loop-number.invariant.0 repeats c.in_ok-so_far.so_far c.in_ok-so_far.ensures
+
+pub returns : goal.returns
+returns g c =
+    let set : TaskSet = task_set c.args.load.now.plan.now in
+    let listed = all_listed set c.tasks-task-items.result.now c.tasks-task-items.ensures in
+    whole_cycle c.args.load.now.plan.now (g.met.P.Pattern.lawful c.args.load.now.policy.now) c.loop-number.number c.loop-number.so_far (omega arith)
+    c.loop-number.invariant.0 c.loop-number.invariant.1

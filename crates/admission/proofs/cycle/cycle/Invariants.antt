@@ -5,5 +5,5 @@ use Rattle.edf.specs.Cycle.{cycle}
 use Rattle.admission.proofs.cycle.cycle.Given as goal
 
 -- the cycle of the tasks so far, which is not above the limit
-abbrev pub invariant-loop-i : goal.invariant-loop-i
-invariant-loop-i g l = (l.so_far ≡ cycle l.i (repetition (task_set l.plan) (g.P.Pattern.meaning l.policy))) × (l.so_far ≤ 1048576)
+abbrev pub invariant-loop-number : goal.invariant-loop-number
+invariant-loop-number g l = (l.so_far ≡ cycle l.number (repetition (task_set l.load.plan.now) (g.P.Pattern.meaning l.load.policy.now))) × (l.so_far ≤ 1048576)

@@ -8,5 +8,5 @@ use Rattle.admission.proofs.misses.first_miss.Given as goal
 -- the run has come to this tick, and nobody was late before
 abbrev pub invariant-loop-tick : goal.invariant-loop-tick
 invariant-loop-tick g l =
-    let S = system (task_set l.plan) (g.P.Pattern.meaning l.policy) in
-    (view (task_set l.plan) l.backlog ≡ trace S silent l.tick) × ((n : ℕ) → n < l.tick → Misses S silent n → ⊥)
+    let S = system (task_set l.load.plan.now) (g.P.Pattern.meaning l.load.policy.now) in
+    (view (task_set l.load.plan.now) l.backlog ≡ trace S silent l.tick) × ((n : ℕ) → n < l.tick → Misses S silent n → ⊥)

@@ -1,15 +1,12 @@
-use Rattle.std.proofs.Common.{◌≡◌, ◌+◌, ◌≤◌}
+use Rattle.std.proofs.Common.{◌≡◌, ◌-◌, ◌≤◌}
 use Rattle.plan.specs.TaskSet.{task_set}
 use Rattle.edf.specs.Plans.{system}
 use Rattle.edf.specs.Refusal.{start_below}
 use Rattle.edf.specs.System.{span_work}
 use Rattle.admission.proofs.spans.last_overload.Given as goal
 
--- the work is that of the span from here, and no span from a later start is overloaded
-abbrev pub invariant-loop-work : goal.invariant-loop-work
-invariant-loop-work g l =
-    let S = system (task_set l.plan) (g.P.Pattern.meaning l.policy) in
-    (l.start ≤ l.end) × (l.work ≡ span_work S l.start l.end) × (start_below S l.end l.end ≡ start_below S l.end (l.start + 1))
-
-abbrev pub decreases-loop-work : goal.decreases-loop-work
-decreases-loop-work g l = l.start
+-- the work is that of the span from here, and no span from here or a later start is overloaded
+abbrev pub invariant-loop-start : goal.invariant-loop-start
+invariant-loop-start g l =
+    let S = system (task_set l.load.plan.now) (g.P.Pattern.meaning l.load.policy.now) in
+    (l.work ≡ span_work S l.start l.end) × (l.work ≤ l.end - l.start) × (start_below S l.end l.end ≡ start_below S l.end l.start)

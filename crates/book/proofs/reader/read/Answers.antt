@@ -1,11 +1,12 @@
-use Rattle.std.proofs.Common.{ℕ, List, Err, refl, ap, ◌∙◌, arith}
-use Rattle.std.proofs.lemmas.Result.{err_from_is_err_and, IfOk-from_err}
-use Rattle.std.proofs.lemmas.Bool.{true≢false}
+use Rattle.std.proofs.Common.{◌≡◌, List, ℕ, Some, sym, ap, ◌∙◌, arith, rules}
+use Rattle.std.specs.Option.{option_map}
 use Rattle.plan.proofs.Answered.{answer_accepted, answer_refused, fault_of_err, left_accepted, left_refused}
-use Rattle.plan.specs.Checks.{gears}
+use Rattle.plan.specs.Checks.{gears, geared}
 use Rattle.plan.specs.TaskSet.{TaskSet, task_set}
+use Rattle.book.proofs.Refused.{handed_on}
 use Rattle.book.proofs.Rewritten.{written_again}
 use Rattle.book.proofs.Readings.{has_a_ratio, holds_it, it_begins, its_book_passed, passed_all, refused_at_blocks, refused_by_record}
+use Rattle.book.specs.Bytes.{byte}
 use Rattle.book.specs.Cursors.{Walk, begun, walk}
 use Rattle.book.specs.Reading.{decoded, holding, open_fault}
 use Rattle.book.specs.Writing.{encoded}
@@ -14,18 +15,18 @@ use Rattle.book.proofs.reader.read.Goals as goal
 pub returns-in_err-cursor : goal.returns-in_err-cursor
 returns-in_err-cursor c =
     let book : List ℕ = c.args.book.now in
-    let exit = err_from_is_err_and c.from_residual.result c.from_residual.ensures.1 in
     let refused = refused_at_blocks book (fault_of_err (open_fault book) (begun book) _ c.in_err-cursor.ensures.answer) in
     record {
-      answer = exit.1 ∙ ap Err exit.2 ∙ answer_refused tt refused;
+      answer = handed_on c.from_residual.result c.from_residual.ensures.1 ∙ answer_refused tt refused;
       after = left_refused (decoded book) (task_set c.args.plan.now) refused;
-      kept = λ _. refl;
-      rewrites = IfOk-from_err c.from_residual.result _ c.from_residual.ensures.0;
+      kept = search rules;
+      rewrites = search rules;
     }
 
-pub returns-in_default : goal.returns-in_default
-returns-in_default c =
-    absurd (has_a_ratio c.args.book.now (walk c.in_ok-cursor.cursor) c.in_ok-cursor.ensures.answer c.in_default.ensures)
+pub returns-in_err-ratio : goal.returns-in_err-ratio
+returns-in_err-ratio c =
+    absurd (has_a_ratio c.args.book.now (walk c.in_ok-cursor.cursor) c.in_ok-cursor.ensures.answer
+    (ap (option_map gears) (sym c.in_err-ratio.ensures.ok_part) ∙ c.new.ensures))
 
 pub collected-requires : goal.collected-requires
 collected-requires c =
@@ -38,27 +39,27 @@ collected-requires c =
 pub returns-in_err-plan : goal.returns-in_err-plan
 returns-in_err-plan c =
     let book : List ℕ = c.args.book.now in
-    let exit = err_from_is_err_and c.from_residual-in_err-plan.result c.from_residual-in_err-plan.ensures.1 in
     let refused = refused_by_record book (walk c.in_ok-cursor.cursor) c.in_ok-cursor.ensures.answer
-    (holding c.in_ok-cursor.cursor.book.now c.in-Some.ratio.p c.in-Some.ratio.q) c.in_err-plan.field-0.0 c.in_err-plan.ensures in
+    (holding c.in_ok-cursor.cursor.book.now c.in_ok-ratio.ratio.p c.in_ok-ratio.ratio.q) c.in_err-plan.field-0.0 c.in_err-plan.ensures in
     record {
-      answer = exit.1 ∙ ap Err exit.2 ∙ answer_refused tt refused;
+      answer = handed_on c.from_residual-in_err-plan.result c.from_residual-in_err-plan.ensures.1 ∙ answer_refused tt refused;
       after = left_refused (decoded book) (task_set c.args.plan.now) refused;
-      kept = λ _. refl;
-      rewrites = IfOk-from_err c.from_residual-in_err-plan.result _ c.from_residual-in_err-plan.ensures.0;
+      kept = search rules;
+      rewrites = search rules;
     }
 
 pub returns : goal.returns
 returns c =
     let book : List ℕ = c.args.book.now in
     let w : Walk = walk c.in_ok-cursor.cursor in
-    let ratio : ℕ × ℕ = gears c.in-Some.ratio in
+    let opened = c.in_ok-cursor.ensures.answer in
     let set : TaskSet = task_set c.in_ok-plan.field-0 in
-    let passed = passed_all book w c.in_ok-cursor.ensures.answer ratio set c.in-Some.ensures c.in_ok-plan.ensures in
-    let held = holds_it book w c.in_ok-cursor.ensures.answer ratio set c.in-Some.ensures c.in_ok-plan.ensures in
+    let ratio : Some (gears c.in_ok-ratio.ratio) ≡ geared (byte book 4) (byte book 5) = ap (option_map gears) (sym c.in_ok-ratio.ensures.ok_part) ∙ c.new.ensures in
+    let passed = passed_all book w opened (gears c.in_ok-ratio.ratio) set ratio c.in_ok-plan.ensures in
+    let held = holds_it book w opened (gears c.in_ok-ratio.ratio) set ratio c.in_ok-plan.ensures in
     record {
       answer = answer_accepted tt passed;
       after = held ∙ left_accepted (decoded book) (task_set c.args.plan.now) passed;
-      kept = λ e. absurd (true≢false e);
+      kept = search rules;
       rewrites = ap encoded held ∙ written_again book (λ i. omega (arith, c.type_inv.book i)) passed;
     }

@@ -7,12 +7,9 @@ use Rattle.runner.specs.Rules.{State}
 use Rattle.runner.specs.declared.call.Answer.TheVariants as said
 use Rattle.runner.proofs.runner.Runner.ask.Goals as goal
 
-pub returns : goal.returns
-returns g c =
+pub returns-clause-promise : goal.returns-clause-promise
+returns-clause-promise g c =
     let policy : Meaning = g.P.Pattern.meaning c.args.self.now.policy in
     let before : State = state c.args.self.now.board in
-    record {
-      answer = c.ask.ensures;
-      promise = goes_on policy (g.met.P.Pattern.lawful c.args.self.now.policy) before (action.ask c.args.task) tt (said.Ask c.ask.result) before
-          (ap said.Ask c.ask.ensures) refl;
-    }
+    goes_on policy (g.met.P.Pattern.lawful c.args.self.now.policy) before (action.ask c.args.task) tt (said.Ask c.ask.result) before
+    (ap said.Ask c.ask.ensures) refl

@@ -8,7 +8,7 @@ use Rattle.service.specs.Rows.{view}
 use Rattle.service.proofs.backlog.Backlog.drop_late.Given as goal
 
 -- the late tasks so far have lost their work, and stand in the mask
-abbrev pub invariant-loop-i : goal.invariant-loop-i
-invariant-loop-i l =
-    Stepped dropped l.i l.initial.self.rows l.self.rows
-    × (l.missed ≡ mask l.i (late (view (task_set l.plan) l.initial.self)))
+abbrev pub invariant-loop-number : goal.invariant-loop-number
+invariant-loop-number l =
+    Stepped dropped l.number l.initial.row-items l.row-items
+    × (l.missed ≡ mask l.number (late (view (task_set l.plan) l.fn.self)))
