@@ -1,6 +1,6 @@
 use Rattle.std.proofs.Common.{◌≡◌, Some, None, Err, ◌∙◌, rules}
 use Rattle.admission.specs.declared.fault.StartFault.TheVariants.{TooLong}
-use Rattle.admission.proofs.Admitted.{right_as_defined, too_long, cycle_found, accepted, overloaded}
+use Rattle.admission.proofs.Admitted.{right_as_defined, too_long, accepted, overloaded}
 use Rattle.admission.proofs.admit.admit.Goals as goal
 
 pub returns-in_err-cycle : goal.returns-in_err-cycle
@@ -10,12 +10,6 @@ returns-in_err-cycle g c =
     let refused : c.from_residual.result ≡ Err TooLong = search rules in
     let defined = refused ∙ too_long c.args.plan.now lawful (none ∙ c.cycle.ensures) in
     record { defined = defined; right = right_as_defined c.args.plan.now lawful _ defined }
-
-pub overload-requires : goal.overload-requires
-overload-requires g c =
-    let short : Some c.in_ok-cycle.cycle ≡ c.cycle.result = search rules in
-    let found = cycle_found c.args.plan.now (g.met.P.Pattern.lawful c.args.policy.now) c.in_ok-cycle.cycle (short ∙ c.cycle.ensures) in
-    record { cycle = found.0; short = found.1 }
 
 pub returns-in-Some : goal.returns-in-Some
 returns-in-Some g c =

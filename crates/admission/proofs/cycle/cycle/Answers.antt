@@ -2,7 +2,7 @@ use Rattle.std.proofs.Common.{◌∙◌, sym, arith}
 use Rattle.pattern.specs.Policy.{Meaning}
 use Rattle.plan.specs.TaskSet.{TaskSet, task_set}
 use Rattle.edf.specs.Admission.{repetition}
-use Rattle.admission.proofs.Cycles.{cycle_begins, cycle_positive, cycle_more, none_above, whole_cycle}
+use Rattle.admission.proofs.Cycles.{cycle_begins, cycle_positive, cycle_more, none_above}
 use Rattle.admission.proofs.Numbered.{all_listed, repetition_at}
 use Rattle.admission.proofs.cycle.cycle.Goals as goal
 
@@ -36,10 +36,3 @@ loop-number-preserved g c =
     c.repetition.result c.repetition.ensures in
     cycle_more c.args.load.now.plan.now (g.met.P.Pattern.lawful c.args.load.now.policy.now) c.loop-number.number c.loop-number.so_far c.repetition.result (omega arith)
     c.loop-number.invariant.0 repeats c.in_ok-so_far.so_far c.in_ok-so_far.ensures
-
-pub returns : goal.returns
-returns g c =
-    let set : TaskSet = task_set c.args.load.now.plan.now in
-    let listed = all_listed set c.tasks-task-items.result.now c.tasks-task-items.ensures in
-    whole_cycle c.args.load.now.plan.now (g.met.P.Pattern.lawful c.args.load.now.policy.now) c.loop-number.number c.loop-number.so_far (omega arith)
-    c.loop-number.invariant.0 c.loop-number.invariant.1

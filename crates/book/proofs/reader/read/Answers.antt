@@ -1,27 +1,16 @@
 use Rattle.std.proofs.Common.{◌≡◌, List, ℕ, Some, sym, ap, ◌∙◌, arith, rules}
 use Rattle.std.specs.Option.{option_map}
-use Rattle.plan.proofs.Answered.{answer_accepted, answer_refused, fault_of_err, left_accepted, left_refused}
+use Rattle.plan.proofs.Answered.{answer_accepted, answer_refused, left_accepted, left_refused}
 use Rattle.plan.specs.Checks.{gears, geared}
 use Rattle.plan.specs.TaskSet.{TaskSet, task_set}
 use Rattle.book.proofs.Refused.{handed_on}
 use Rattle.book.proofs.Rewritten.{written_again}
-use Rattle.book.proofs.Readings.{has_a_ratio, holds_it, it_begins, its_book_passed, passed_all, refused_at_blocks, refused_by_record}
+use Rattle.book.proofs.Readings.{has_a_ratio, holds_it, it_begins, its_book_passed, passed_all, refused_by_record}
 use Rattle.book.specs.Bytes.{byte}
-use Rattle.book.specs.Cursors.{Walk, begun, walk}
-use Rattle.book.specs.Reading.{decoded, holding, open_fault}
+use Rattle.book.specs.Cursors.{Walk, walk}
+use Rattle.book.specs.Reading.{decoded, holding}
 use Rattle.book.specs.Writing.{encoded}
 use Rattle.book.proofs.reader.read.Goals as goal
-
-pub returns-in_err-cursor : goal.returns-in_err-cursor
-returns-in_err-cursor c =
-    let book : List ℕ = c.args.book.now in
-    let refused = refused_at_blocks book (fault_of_err (open_fault book) (begun book) _ c.in_err-cursor.ensures.answer) in
-    record {
-      answer = handed_on c.from_residual.result c.from_residual.ensures.1 ∙ answer_refused tt refused;
-      after = left_refused (decoded book) (task_set c.args.plan.now) refused;
-      kept = search rules;
-      rewrites = search rules;
-    }
 
 pub returns-in_err-ratio : goal.returns-in_err-ratio
 returns-in_err-ratio c =
