@@ -63,7 +63,7 @@ fn collected(cursor: Cursor, ratio: Ratio) -> Result<Plan, RecordFault>
     Ok(plan)
 }
 
-// Reads a book into the plan, or says why it is none and leaves the plan as it is.
+// Reads a book into the plan, or says why it is none and leaves the plan as it is, which only this contract can say.
 pub fn read(book: &[u8], plan: &mut Plan) -> Result<(), BookFault>
     ensures answer { result ≡ answer (read_fault book.now) tt }
     ensures after { task_set plan.new ≡ left (read_fault book.now) (decoded book.now) (task_set plan.old) }

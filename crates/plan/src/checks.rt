@@ -93,6 +93,7 @@ impl Ratio {
     }
 }
 
+// Each call says by itself that a refusal leaves the plan as it was: no invariant compares a value with what it was.
 impl Plan {
     // An empty plan with that ratio.
     pub fn with_ratio(ratio: Ratio) -> Plan

@@ -3,6 +3,7 @@ ghost use Rattle.plan.specs.Bounded.{PlanIsBounded};
 ghost use Rattle.plan.specs.Laws.{SameIsAnEquivalence};
 
 // The task set of every plan keeps the bounds.
+#[tactic(auto, using(crate::proofs::Bounding::plan_is_bounded))]
 pub fn plan_is_bounded()
     ensures { PlanIsBounded }
 {}
