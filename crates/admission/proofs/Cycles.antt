@@ -18,7 +18,7 @@ unfolding cycle
 cycle_begins f = refl
 
 -- and one task more makes it the least common multiple with that task's repetition
-cycle_goes_on : (n : ℕ) (f : ℕ → ℕ) → cycle (n + 1) f ≡ lcm (cycle n f) (f n)
+pub cycle_goes_on : (n : ℕ) (f : ℕ → ℕ) → cycle (n + 1) f ≡ lcm (cycle n f) (f n)
 unfolding cycle
 cycle_goes_on n f = ap (λ k. cycle k f) (add-one n)
 
@@ -37,7 +37,7 @@ module _ (plan : Plan) {policy : Meaning} (lawful : Lawful policy) where
   cycle_positive n few = (cycle_so_far n few).positive
 
   -- a cycle so far above the limit decides
-  above_decides : (n : ℕ) → n ≤ count set → 1048576 < cycle n (repetition set policy) →
+  pub above_decides : (n : ℕ) → n ≤ count set → 1048576 < cycle n (repetition set policy) →
       None ≡ cond (ltb 1048576 (cycle_of set policy)) None (Some (cycle_of set policy))
   above_decides n few above =
       let H = cycle_of set policy in

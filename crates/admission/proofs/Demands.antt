@@ -24,7 +24,7 @@ use Rattle.admission.specs.Verdicts.{overload_of}
 
 module _ (S : System) (e : ℕ) where
   -- a span of no ticks has no work
-  no_span : span_work S e e ≡ 0
+  pub no_span : span_work S e e ≡ 0
   no_span = let none : e - e ≡ 0 = omega arith in ap (λ n. Sum n (λ k. due S e (e + k))) none
 
   -- a start one tick earlier adds what is released there

@@ -1,30 +1,35 @@
--- Byte strings that a function gives for 0, 1, 2 and so on, joined. Assumes nothing.
-use Rattle.std.proofs.Common.{◌≡◌, ℕ, zero, suc, ◌+◌, ◌<◌, ◌≤◌, List, [], ◌∷◌, ◌++◌, get_or, map, sym, ap, ◌∙◌, subst, add-one, inl, inr, arith}
-use denote.Param.Members.{Mut, Called}
-use Rattle.std.proofs.lemmas.Bool.{cases_lt}
+-- Byte strings that a loop fills in for 0, 1, 2 and so on, joined. Assumes nothing.
+use Rattle.std.proofs.Common.{◌≡◌, ℕ, zero, suc, ◌+◌, ◌*◌, ◌<◌, ◌≤◌, List, [], ◌∷◌, ◌++◌, length, get_or, set, map, sym, ap, ◌∙◌, ⊎_elim, add-one, arith, get_or-set_other, get_or-set_same, length-set}
+use Rattle.std.proofs.lemmas.Bool.{cases_eq}
 use Rattle.std.proofs.lemmas.List.{append-nil}
 use Rattle.std.proofs.lemmas.List.Concat.{flat_map-append}
 use Rattle.std.proofs.lemmas.List.FromFn.{fill_by_all, map-range_with_len_more}
-use Rattle.std.specs.Array.{IsFromFnResult, IsFromFnResultFrom}
-use Rattle.std.specs.List.{flat_map, range_with_len}
+use Rattle.std.specs.List.{flat_map, range_with_len, slice_get}
+use Rattle.plan.specs.TaskSet.{TaskSet}
 use Rattle.book.proofs.Writings.{turn_more, turn_none}
-use Rattle.book.specs.Writing.{in_turn}
+use Rattle.book.specs.Writing.{in_turn, records_of, slot}
 
--- a closure that computes h, and stays as it is
-module _ {F B : Type 0} (g : Mut F (ℕ × Unit {0}) B) (f : F) (h : ℕ → B) (acts : (i : ℕ) (y : B) (q : F) → Called g f (i, tt) y q → (q ≡ f) × (y ≡ h i)) where
-  -- what calls from number i on gave
-  given_from : (ys : List B) (i n : ℕ) → IsFromFnResultFrom g f ys i n → (k : ℕ) (d : B) → i ≤ k → k < i + n → get_or ys k d ≡ h k
-  given_from ys i zero e k d low high = absurd (omega arith)
-  given_from ys i (suc n) (q, y, at, call, rest) k d low high =
-      let step = acts i y q call in
-      elim (cases_lt i k) [
-        | inl later ↦ given_from ys (i + 1) n (subst (λ p. IsFromFnResultFrom g p ys (i + 1) n) step.0 rest) k d (omega arith) (omega arith)
-        | inr now ↦ (let same : k ≡ i = omega arith in ap (λ j. get_or ys j d) same ∙ at.1 d ∙ step.1 ∙ ap h (sym same))
-      ]
+-- Of so many strings those below n are the ones that f gives.
+pub record Filled (f : ℕ → List ℕ) (size n : ℕ) (rows : List (List ℕ)) : Type 0 where
+  pub long : length rows ≡ size
+  pub each : (k : ℕ) → k < n → get_or rows k [] ≡ f k
 
-  -- what all the calls gave
-  pub given : (ys : List B) (n : ℕ) (d : B) → IsFromFnResult g f ys n → ys ≡ map h (range_with_len 0 n)
-  given ys n d e = fill_by_all h ys n d e.long (λ k below. given_from ys 0 n e.each k d (omega arith) (omega arith))
+module _ (f : ℕ → List ℕ) (size : ℕ) where
+  -- none so far
+  pub none_filled : (rows : List (List ℕ)) → length rows ≡ size → Filled f size 0 rows
+  none_filled rows long = record { long = long; each = λ k below. absurd (omega arith) }
+
+  -- one string more
+  pub filled_more : (n : ℕ) (rows : List (List ℕ)) (v : List ℕ) → n < size → v ≡ f n → Filled f size n rows → Filled f size (n + 1) (set rows n v)
+  filled_more n rows v inside here so_far =
+      record {
+        long = length-set rows n v ∙ so_far.long;
+        each = λ k below.
+            ⊎_elim
+            (λ e. rw e (get_or-set_same rows n v [] (omega (arith, so_far.long)) ∙ here))
+            (λ ne. get_or-set_other rows n k v [] ne ∙ so_far.each k (omega (arith, ne)))
+            (cases_eq k n);
+      }
 
 -- the strings joined are the strings in turn
 pub joined : (f : ℕ → List ℕ) (n : ℕ) → flat_map (λ x. x) (map f (range_with_len 0 n)) ≡ in_turn f n
@@ -36,3 +41,17 @@ joined f (suc n) =
     ap (λ t. t ++ (f n ++ [])) (joined f n) ∙
     ap (λ t. in_turn f n ++ t) (append-nil (f n)) ∙
     sym (turn_more f n) ∙ ap (in_turn f) (add-one n)
+
+-- a loop that has come to the end has filled in all of them
+pub all_filled : (f : ℕ → List ℕ) (size n : ℕ) (rows : List (List ℕ)) → size ≤ n → Filled f size n rows → flat_map (λ x. x) rows ≡ in_turn f size
+all_filled f size n rows end filled = ap (flat_map (λ x. x)) (fill_by_all f rows size [] filled.long (λ k below. filled.each k (omega arith))) ∙ joined f size
+
+-- record r from the one of that task on
+abbrev pub record_from : TaskSet → ℕ → ℕ → List ℕ
+record_from set first r = slot (slice_get set.tasks (first + r))
+
+-- counted from the first record of a block they are the block's
+pub block_filled : (set : TaskSet) (i first n : ℕ) (rows : List (List ℕ)) → 15 ≤ n → Filled (record_from set first) 15 n rows → first ≡ 15 * i
+    → flat_map (λ x. x) rows ≡ records_of set i
+block_filled set i first n rows end filled begins =
+    all_filled (record_from set first) 15 n rows end filled ∙ ap (λ k. in_turn (record_from set k) 15) begins

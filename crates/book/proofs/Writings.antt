@@ -1,14 +1,16 @@
 -- Writing parts of a block over what stood there. Assumes nothing.
-use Rattle.std.proofs.Common.{◌≡◌, ℕ, zero, suc, ◌+◌, ◌*◌, ◌<◌, ◌≤◌, cond, List, [], ◌++◌, length, take, drop, Some, None, Option, Result, sym, refl, ap, ◌∙◌, mul-zero, mul-suc, add-one, arith}
+use Rattle.std.proofs.Common.{◌≡◌, ℕ, zero, suc, ◌+◌, ◌*◌, ◌<◌, ◌≤◌, cond, List, [], ◌++◌, length, take, drop, Some, None, Option, Ok, sym, refl, ap, ◌∙◌, mul-zero, mul-suc, add-one, arith}
 use borrow.Rule.Slice.PartMut.{put_mid}
-use Rattle.std.proofs.lemmas.List.{append-nil, drop_at, drop-drop, length-append, take_at}
-use Rattle.std.proofs.lemmas.Bool.{le-leb, lt-leb}
+use Rattle.std.proofs.lemmas.List.{append_assoc, drop_at, drop-drop, length-append, take-append-drop, take_at}
+use Rattle.std.proofs.lemmas.Bool.{le-leb, le-ltb, lt-leb, lt-ltb}
 use Rattle.std.specs.List.{slice_get}
+use Rattle.plan.proofs.Answered.{answer_accepted, left_accepted, left_refused}
+use Rattle.plan.specs.Checks.{refuse_if}
 use Rattle.plan.specs.Refusals.{answer, left}
 use Rattle.plan.specs.TaskSet.{Parameters, TaskSet}
 use Rattle.book.specs.Bytes.{bytes32, total}
-use Rattle.book.specs.Writing.{block_bytes, blocks_for, check_of, encoded, head_of, in_turn, over, record_bytes, records_of, slot, slot_at, room_fault, write_fault}
-use Rattle.book.specs.declared.fault.BookFault.{BookFault}
+use Rattle.book.specs.Writing.{block_bytes, blocks_for, check_of, encoded, head_of, in_turn, over, record_bytes, records_of, slot, slot_at, write_fault}
+use Rattle.book.specs.declared.fault.BookFault.TheVariants.{Buffer}
 
 -- a write to a part of a slice
 pub put_is_over : (at k : ℕ) (xs ys zs : List ℕ) → zs ≡ ys → k ≡ length ys → put_mid at k xs zs ≡ over xs at ys
@@ -85,23 +87,40 @@ module _ (set : TaskSet) where
       let two : blocks_for set ≡ 2 = ap (λ b. cond b 1 2) (lt-leb (length set.tasks) 15 many) in
       ap (λ n. in_turn (λ i. block_bytes set i n) n) two
 
-  -- two blocks that were written one after the other are that book
-  pub pair_is : (a b : List ℕ) → a ≡ block_bytes set 0 2 → b ≡ block_bytes set 1 2 → 15 < length set.tasks → a ++ (b ++ []) ≡ encoded set
-  pair_is a b first second many =
-      ap (λ t. a ++ t) (append-nil b) ∙ ap (λ x. x ++ b) first ∙ ap (λ y. block_bytes set 0 2 ++ y) second ∙ sym (two_blocks many)
+  -- up to 15 tasks are one block, and more are two
+  pub one_for : length set.tasks ≤ 15 → 1 ≡ blocks_for set
+  one_for few = sym (ap (λ b. cond b 1 2) (le-leb (length set.tasks) 15 few))
 
-  -- a book that is put into a buffer
-  module _ (B book : List ℕ) (same : book ≡ encoded set) where
-    -- a buffer has room for the bytes exactly if it has room for the book
-    pub fits : room_fault (length book) (length B) ≡ write_fault set (length B)
-    fits = ap (λ n. room_fault n (length B)) (ap length same ∙ book_long)
+  pub two_for : 15 < length set.tasks → 2 ≡ blocks_for set
+  two_for many = sym (ap (λ b. cond b 1 2) (lt-leb (length set.tasks) 15 many))
+
+  -- two blocks that were written one after the other over the front of a buffer are that book
+  pub pair_is : (a b B : List ℕ) → a ≡ block_bytes set 0 2 → b ≡ block_bytes set 1 2 → 15 < length set.tasks
+      → a ++ (b ++ drop 512 (drop 512 B)) ≡ encoded set ++ drop 1024 B
+  pair_is a b B first second many =
+      ap (λ x. x ++ (b ++ drop 512 (drop 512 B))) first ∙ ap (λ y. block_bytes set 0 2 ++ (y ++ drop 512 (drop 512 B))) second ∙
+      ap (λ d. block_bytes set 0 2 ++ (block_bytes set 1 2 ++ d)) (drop-drop 512 512 B) ∙
+      sym (append_assoc (block_bytes set 0 2) (block_bytes set 1 2) (drop 1024 B)) ∙ ap (λ b. b ++ drop 1024 B) (sym (two_blocks many))
+
+  -- a book that is put over the front of a buffer with room for it
+  module _ (B : List ℕ) (n : ℕ) (size : n ≡ blocks_for set) (room : 512 * n ≤ length B) where
+    -- the buffer is not refused
+    pub fits : write_fault set (length B) ≡ None
+    fits = ap (λ b. refuse_if b Buffer None) (le-ltb (length B) (512 * blocks_for set) (omega (arith, size, room)))
 
     -- what the call answers
-    pub put_answers : (r : Result ℕ BookFault) → r ≡ answer (room_fault (length book) (length B)) (length book)
-        → r ≡ answer (write_fault set (length B)) (512 * blocks_for set)
-    put_answers r e = e ∙ ap (λ o. answer o (length book)) fits ∙ ap (answer (write_fault set (length B))) (ap length same ∙ book_long)
+    pub put_answers : Ok (512 * n) ≡ answer (write_fault set (length B)) (512 * blocks_for set)
+    put_answers = ap (λ k. Ok (512 * k)) size ∙ answer_accepted (512 * blocks_for set) fits
 
     -- what it leaves in the buffer
-    pub put_leaves : (now : List ℕ) → now ≡ left (room_fault (length book) (length B)) (over B 0 book) B
-        → now ≡ left (write_fault set (length B)) (over B 0 (encoded set)) B
-    put_leaves now e = e ∙ ap (λ o. left o (over B 0 book) B) fits ∙ ap (λ b. left (write_fault set (length B)) (over B 0 b) B) same
+    pub put_leaves : (now : List ℕ) → now ≡ encoded set ++ drop (512 * n) B → now ≡ left (write_fault set (length B)) (over B 0 (encoded set)) B
+    put_leaves now written =
+        written ∙ ap (λ k. encoded set ++ drop k B) (omega (arith, size, book_long)) ∙ left_accepted (over B 0 (encoded set)) B fits
+
+  -- a buffer that is too short for two blocks stays as it was, in its two parts
+  pub short_stays : (B front back : List ℕ) → front ≡ take 512 B → back ≡ drop 512 B → 15 < length set.tasks → length B < 1024
+      → front ++ back ≡ left (write_fault set (length B)) (over B 0 (encoded set)) B
+  short_stays B front back first rest many short =
+      ap (λ f. f ++ back) first ∙ ap (λ b. take 512 B ++ b) rest ∙ take-append-drop 512 B ∙
+      left_refused (over B 0 (encoded set)) B
+      (ap (λ b. refuse_if b Buffer None) (lt-ltb (length B) (512 * blocks_for set) (omega (arith, two_for many, short))))

@@ -1,17 +1,16 @@
 // Writing a plan as a book.
-ghost use Rattle.std.specs.Prelude.{◌≡◌, ◌+◌, ◌*◌, ◌^◌, ◌<◌, ◌++◌, length, take, replicate, None, IfOk, nat_lt};
-ghost use Rattle.std.specs.List.{slice_get, flat_map};
+ghost use Rattle.std.specs.Prelude.{◌≡◌, ◌+◌, ◌*◌, ◌++◌, length, take, replicate, IfOk};
+ghost use Rattle.std.specs.List.{slice_get};
 ghost use Rattle.plan.specs.Refusals.{answer, left};
 ghost use Rattle.plan.specs.TaskSet.{task_set, parameters};
 ghost use Rattle.book.specs.RoundTrip.{ReadsAs};
 ghost use Rattle.book.specs.Seats.{place, blocks};
-ghost use Rattle.book.specs.Writing.{over, record_bytes, slot, records_of, head_of, block_bytes, blocks_for, encoded, room_fault, write_fault};
+ghost use Rattle.book.specs.Writing.{over, record_bytes, slot, head_of, block_bytes, blocks_for, encoded, write_fault};
 
 use super::block::{BLOCK, RECORD, RECORDS, Seat, mend};
 use super::fault::BookFault;
 use plan::plan::Plan;
 use plan::task::Task;
-use std::array;
 
 // The record of a task.
 #[tactic(auto, unfolding(crate::specs::Writing::record_bytes))]
@@ -38,19 +37,6 @@ fn slot_bytes(plan: &Plan, number: usize) -> [u8; RECORD]
     }
 }
 
-// The 15 records of a block.
-fn records(plan: &Plan, seat: Seat) -> [[u8; RECORD]; RECORDS]
-    ensures { flat_map (λ x. x) result ≡ records_of (task_set plan.now) (place seat) }
-{
-    let first = seat.first_record();
-    // its clauses are written out, since the inferred ones say nothing of an array that it answers
-    let record = |r: usize| -> [u8; RECORD]
-        requires { first + r < 2 ^ 64 }
-        ensures { result ≡ slot (slice_get (task_set plan.entry.now).tasks (first + r)) }
-    { slot_bytes(plan, first + r) };
-    array::from_fn(record)
-}
-
 // The first 32 bytes of a block, with zero in the place of the check.
 fn head_bytes(plan: &Plan, seat: Seat) -> [u8; RECORD]
     ensures { result ≡ head_of (task_set plan.now) (place seat) (blocks seat) ++ replicate 4 0 }
@@ -68,28 +54,18 @@ fn head_bytes(plan: &Plan, seat: Seat) -> [u8; RECORD]
     bytes
 }
 
-// One block of a plan's book.
-#[tactic(auto, using(crate::proofs::Mended::block_is, crate::proofs::Mended::front_and_rest))]
-fn block_bytes(plan: &Plan, seat: Seat) -> [u8; BLOCK]
-    ensures { result ≡ block_bytes (task_set plan.now) (place seat) (blocks seat) }
+// Makes one block of a plan's book, over what stands in its place.
+fn put_block(plan: &Plan, seat: Seat, block: &mut [u8; BLOCK])
+    ensures { block.new ≡ block_bytes (task_set plan.now) (place seat) (blocks seat) }
 {
-    let mut block = [0; BLOCK];
-    block[..RECORD].copy_from_slice(&head_bytes(plan, seat));
-    block[RECORD..].copy_from_slice(records(plan, seat).as_flattened());
-    mend(&mut block);
-    block
-}
-
-// Writes a book over the front of a buffer and answers its length.
-fn put(buffer: &mut [u8], book: &[u8]) -> Result<usize, BookFault>
-    ensures answer { result ≡ answer (room_fault (length book.now) (length buffer.old)) (length book.now) }
-    ensures after { buffer.new ≡ left (room_fault (length book.now) (length buffer.old)) (over buffer.old 0 book.now) buffer.old }
-{
-    if buffer.len() < book.len() {
-        return Err(BookFault::Buffer);
+    let first = seat.first_record();
+    let mut records = [[0; RECORD]; RECORDS];
+    for (number, record) in records.iter_mut().enumerate() {
+        *record = slot_bytes(plan, first + number);
     }
-    buffer[..book.len()].copy_from_slice(book);
-    Ok(book.len())
+    block[..RECORD].copy_from_slice(&head_bytes(plan, seat));
+    block[RECORD..].copy_from_slice(records.as_flattened());
+    mend(block);
 }
 
 // Writes the plan as a book and answers its length: 512 bytes for up to 15 tasks, and else 1,024.
@@ -100,11 +76,15 @@ pub fn write(plan: &Plan, buffer: &mut [u8]) -> Result<usize, BookFault>
     ensures reads_back { IfOk result (λ n. ReadsAs (take n buffer.new) (task_set plan.now)) }
 {
     if plan.len() <= RECORDS {
-        return put(buffer, &block_bytes(plan, Seat::Lone));
+        let block = buffer.first_chunk_mut().ok_or(BookFault::Buffer)?;
+        put_block(plan, Seat::Lone, block);
+        return Ok(BLOCK);
     }
-    let blocks = [
-        block_bytes(plan, Seat::First),
-        block_bytes(plan, Seat::Second),
-    ];
-    put(buffer, blocks.as_flattened())
+    let Some((first, rest)) = buffer.split_first_chunk_mut() else {
+        return Err(BookFault::Buffer);
+    };
+    let second = rest.first_chunk_mut().ok_or(BookFault::Buffer)?;
+    put_block(plan, Seat::First, first);
+    put_block(plan, Seat::Second, second);
+    Ok(2 * BLOCK)
 }

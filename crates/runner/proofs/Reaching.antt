@@ -30,11 +30,11 @@ module _ (policy : Meaning) where
   replies_push state [] call = refl
   replies_push state (first ∷ calls) call = ap (λ rest. reply policy state first ∷ rest) (replies_push (next policy state first) calls call)
 
-  run_none : run policy [] ≡ made
+  pub run_none : run policy [] ≡ made
   unfolding run_from
   run_none = refl
 
-  replies_none : replies policy [] ≡ []
+  pub replies_none : replies policy [] ≡ []
   unfolding replies_from
   replies_none = refl
 

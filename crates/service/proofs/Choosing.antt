@@ -111,7 +111,7 @@ module _ (tasks : TaskSet) (backlog : Backlog) where
   counters = view tasks backlog
 
   -- a counter is that of the task's row
-  work_by_row : (k : ℕ) → k < count tasks → counters.w k ≡ (row backlog k).work
+  pub work_by_row : (k : ℕ) → k < count tasks → counters.w k ≡ (row backlog k).work
   work_by_row k h = cond-true (ltb k (count tasks)) (row backlog k).work 0 (lt-ltb k (count tasks) h)
 
   ticks_by_row : (k : ℕ) → k < count tasks → counters.d k ≡ (row backlog k).ticks

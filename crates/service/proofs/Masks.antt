@@ -6,7 +6,7 @@ at_most : (b : Bool) (n : ℕ) → cond b n 0 ≤ n
 at_most true n = omega arith
 at_most false n = omega arith
 
-mask_below : (n : ℕ) (test : ℕ → Bool) → mask n test < 2 ^ n
+pub mask_below : (n : ℕ) (test : ℕ → Bool) → mask n test < 2 ^ n
 mask_below zero test = omega arith
 mask_below (suc n) test = omega (arith, mask_below n test, at_most (test n) (2 ^ n))
 

@@ -79,7 +79,7 @@ module _ (tasks : TaskSet) (old : Backlog) (new rest : List Pending) where
         ticks_at k false e false p = refl
 
 -- a task is late in the counters exactly if its row is
-late_by_row : (tasks : TaskSet) (backlog : Backlog) (k : ℕ) → k < count tasks → late (view tasks backlog) k ≡ overdue (row backlog k)
+pub late_by_row : (tasks : TaskSet) (backlog : Backlog) (k : ℕ) → k < count tasks → late (view tasks backlog) k ≡ overdue (row backlog k)
 late_by_row tasks backlog k h = ap (λ b. ltb 0 (cond b (row backlog k).work 0) && eqb (cond b (row backlog k).ticks 0) 0) (lt-ltb k (count tasks) h)
 
 -- and the row that comes next is as it was before the loop
